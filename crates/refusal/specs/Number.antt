@@ -1,0 +1,24 @@
+-- The number of each refusal: the table of the refusal numbers, 1 to 18.
+use Prim.Native.Nat.{ℕ}
+use Rattle.refusal.specs.declared.Refusal.{Refusal}
+use Rattle.refusal.specs.declared.Refusal.the-variants.{InvalidHeader, InvalidTokenLength, InvalidOptionDelta, InvalidOptionLength, InvalidPacketLength, TooManyOptions, WrongVersion, EmptyCarries, MarkerAlone, TooLong, BadRecord, NoRoom, BadUint, BadBlockSize, BadText, BadOption, BlockNumber, HeaderNotWritten}
+
+abbrev pub numberOf : Refusal → ℕ
+numberOf InvalidHeader = 1
+numberOf InvalidTokenLength = 2
+numberOf InvalidOptionDelta = 3
+numberOf InvalidOptionLength = 4
+numberOf InvalidPacketLength = 5
+numberOf TooManyOptions = 6
+numberOf WrongVersion = 7
+numberOf EmptyCarries = 8
+numberOf MarkerAlone = 9
+numberOf TooLong = 10
+numberOf BadRecord = 11
+numberOf NoRoom = 12
+numberOf BadUint = 13
+numberOf BadBlockSize = 14
+numberOf BadText = 15
+numberOf BadOption = 16
+numberOf BlockNumber = 17
+numberOf HeaderNotWritten = 18

@@ -1,0 +1,8 @@
+pub mod Choice
+pub mod Part
+pub mod Table
+pub mod Message
+pub mod Uint
+pub mod Block
+pub mod Text
+pub mod Option
