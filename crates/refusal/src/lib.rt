@@ -52,3 +52,15 @@ impl Refusal {
         }
     }
 }
+
+// What writing into a lent output answers: how many bytes stand there now, from its start; or why nothing was written.
+pub enum Written {
+    Length(usize),
+    Refused(Refusal),
+}
+
+// What an operation answers that has no value of its own.
+pub enum Outcome {
+    Done,
+    Refused(Refusal),
+}

@@ -11,7 +11,8 @@ use Rattle.rfc.specs.Block.{Block, Valid, bit, blockNumber, blockOf, blo
 use Rattle.rfc.proofs.Choice.{on-eq}
 use Rattle.rfc.proofs.Uint.{written-read}
 
-bit-small : (more : Bool) → bit more ≤ 1
+-- M is one bit.
+pub bit-small : (more : Bool) → bit more ≤ 1
 bit-small true = lit≤ tt
 bit-small false = lit≤ tt
 

@@ -3,7 +3,7 @@ use Prim.Native.Nat.{ℕ, zero, suc, _+_, _-_, _*_, _/_, _%_, _^_, _<_, _≤_}
 use mathlib.Core.Path.{_≡_, refl, sym, ap, _∙_}
 use mathlib.Core.Bool.{true, false}
 use mathlib.Core.List.{List, [], _∷_, _++_, append-assoc, append-nil}
-use native.Mathlib.Nat.{pow-suc, div-lt-iff-lt-mul, le-of-suc-le-suc, add-zero, zero-add, add-suc, suc-add, not-suc-le-zero}
+use native.Mathlib.Nat.{pow-suc, pow-succ', mul-assoc, mul-le-mul-right, lt-of-lt-of-le, div-lt-iff-lt-mul, le-of-suc-le-suc, add-zero, zero-add, add-suc, suc-add, not-suc-le-zero}
 use native.Mathlib.Omega.{arith}
 use lib.Dec.{eqb, lit<}
 use lib.ListN.{length, length-append}
@@ -13,6 +13,7 @@ use Rattle.rfc.specs.Choice.{pick}
 use Rattle.rfc.specs.Part.{Bytes}
 use Rattle.rfc.specs.Uint.{numberFrom, number, uint, withoutZeros}
 use Rattle.rfc.proofs.Choice.{on-eq}
+use Rattle.rfc.proofs.Part.{bytes-append}
 
 -- A number read in two goes.
 pub number-append : (n : ℕ) (s t : List ℕ) → numberFrom n (s ++ t) ≡ numberFrom (numberFrom n s) t
@@ -68,3 +69,40 @@ read-written (suc width) (x ∷ bs) b h =
     rw w
     (uint-after (suc (width - length bs)) x bs (b .1) above
     ∙ (rw (uint-more (width - length bs) x above, q, r, uint-zero) refl))))
+
+-- The shortest bytes do not depend on the width, where the number has room in it.
+pub uint-enough : (width more n : ℕ) → n < 256 ^ width → uint (width + more) n ≡ uint width n
+unfolding uint
+uint-enough zero more n h = let e : n ≡ 0 = omega (arith, h) in rw e (uint-zero (zero + more))
+uint-enough (suc width) more n h =
+    let rest : n / 256 < 256 ^ width = div-lt-iff-lt-mul (lit< tt) .1 (rw pow-suc at h) in
+    rw (suc-add, uint-enough width more (n / 256) rest) refl
+
+-- A uint has no more bytes than its width.
+pub length-uint : (width n : ℕ) → length (uint width n) ≤ width
+unfolding uint
+length-uint zero n = omega arith
+length-uint (suc width) n =
+    on-eq (λ (bs : List ℕ). length bs ≤ suc width) n 0 (λ e. omega arith)
+    (λ z. simp length-append (omega (arith, length-uint width (n / 256))))
+
+-- A uint's elements are bytes.
+pub bytes-uint : (width n : ℕ) → Bytes (uint width n)
+unfolding uint
+bytes-uint zero n = tt
+bytes-uint (suc width) n =
+    on-eq (λ (bs : List ℕ). Bytes bs) n 0 (λ e. tt)
+    (λ z. bytes-append (uint width (n / 256)) ((n % 256) ∷ []) (bytes-uint width (n / 256)) (omega arith, tt))
+
+-- Each byte read after a number makes room for 256 times as many.
+below-from : (n : ℕ) (bs : List ℕ) → Bytes bs → numberFrom n bs < (n + 1) * 256 ^ length bs
+below-from n [] b = omega arith
+below-from n (x ∷ bs) b =
+    let h : n * 256 + x + 1 ≤ (n + 1) * 256 = omega (arith, b .0) in
+    let e : (n + 1) * 256 * 256 ^ length bs ≡ (n + 1) * 256 ^ suc (length bs) =
+    mul-assoc (n + 1) 256 (256 ^ length bs) ∙ ap (λ (k : ℕ). (n + 1) * k) (sym (pow-succ' 256 (length bs))) in
+    lt-of-lt-of-le (below-from (n * 256 + x) bs (b .1)) (rw e at (mul-le-mul-right (256 ^ length bs) h))
+
+-- A number has room in as many bytes as it was read from.
+pub number-below : (bs : List ℕ) → Bytes bs → number bs < 256 ^ length bs
+number-below bs b = omega (arith, below-from 0 bs b)

@@ -1,0 +1,7 @@
+pub mod Powers
+pub mod Sizes
+pub mod Distinct
+pub mod PlainLaws
+pub mod StrictLaws
+mod Readings
+mod Examples

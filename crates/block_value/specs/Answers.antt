@@ -1,0 +1,24 @@
+-- What the operations on block values answer, in the words of the promises.
+use Prim.Native.Nat.{ℕ}
+use Rattle.rfc.specs.Block.{Block}
+use Rattle.refusal.specs.Answer.{Answer, given, refused}
+use Rattle.refusal.specs.Number.{numberOf}
+use Rattle.block_value.specs.declared.BlockValue.{BlockValue}
+use Rattle.block_value.specs.declared.BlockBuilt.{BlockBuilt}
+use Rattle.block_value.specs.declared.BlockBuilt.the-variants.{Block as Built, Refused}
+use Rattle.block_value.specs.declared.BlockSize.{BlockSize}
+use Rattle.block_value.specs.declared.BlockSize.the-variants.{Size, Refused as NoSize}
+
+-- The block that a block value stands for.
+abbrev pub meant : BlockValue → Block
+meant b = record { num = b .num; more = b .more; szx = b .«size_exponent» }
+
+-- The answer of an operation that gives a block.
+abbrev pub built : BlockBuilt → Answer Block
+built (Built b) = given (meant b)
+built (Refused e) = refused (numberOf e)
+
+-- The answer of an operation that gives a size.
+abbrev pub sized : BlockSize → Answer ℕ
+sized (Size n) = given n
+sized (NoSize e) = refused (numberOf e)

@@ -1,0 +1,4 @@
+pub mod Class
+pub mod CodeText
+pub mod Raw
+mod Examples

@@ -1,0 +1,2 @@
+pub mod Uint
+pub mod Text
