@@ -1,0 +1,57 @@
+use Rattle.packet.specs.Packet.{bytesOf}
+use native.Mathlib.Nat.{add-sub-cancel-left}
+use borrow.Author.Tests.{le-leb, lt-leb}
+use borrow.Author.Needs.{needs}
+use Rattle.packet.proofs.Range.part.Statement.{statement}
+use Rattle.packet.proofs.Range.part.Tie as tie
+
+cast-start : tie.Need-cast-start
+cast-start c = search needs
+
+cast-end : tie.Need-cast-end
+cast-end c = search needs
+
+add-end : tie.Need-add-end
+add-end c = search needs
+
+sub-result : tie.Need-sub-result
+sub-result c = search needs
+
+part-result-start : tie.Need-part-result-start
+part-result-start c = search needs
+
+part-result-end : tie.Need-part-result-end
+part-result-end c = search needs
+
+returns : tie.Need-returns
+unfolding bytesOf
+returns c = rw (lt-leb _ _ (c .before .if1 .taken))
+
+sub-result-2 : tie.Need-sub-result-2
+sub-result-2 c = search needs
+
+part-result-start-2 : tie.Need-part-result-start-2
+part-result-start-2 c = search needs
+
+part-result-end-2 : tie.Need-part-result-end-2
+part-result-end-2 c = search needs
+
+returns-2 : tie.Need-returns-2
+unfolding bytesOf
+returns-2 c = rw (le-leb _ _ (c .before .if1 .left), add-sub-cancel-left)
+
+pub part-spec : {M : Type 1} → statement M
+part-spec =
+    tie.close
+    (tie.spec
+    cast-start
+    cast-end
+    add-end
+    sub-result
+    part-result-start
+    part-result-end
+    returns
+    sub-result-2
+    part-result-start-2
+    part-result-end-2
+    returns-2)

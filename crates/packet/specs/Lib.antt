@@ -1,0 +1,4 @@
+pub mod Packet
+pub mod Meaning
+pub mod Judge
+pub mod Shape

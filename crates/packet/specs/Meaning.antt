@@ -1,0 +1,26 @@
+-- What a packet means over a store: the message of its header, and of the bytes that its ranges name.
+use Prim.Native.Nat.{ℕ}
+use mathlib.Core.List.{List, map}
+use Rattle.rfc.specs.Message.{Message, Opt}
+use Rattle.header.specs.Class.{byteOf}
+use Rattle.header.specs.Header.{numberOfType}
+use Rattle.packet.specs.Packet.{bytesOf, valueOf, recordsOf}
+use Rattle.packet.specs.declared.Packet.{Packet}
+use Rattle.packet.specs.declared.OptionRecord.{OptionRecord}
+
+-- The option of a record: its number and the bytes of its value.
+abbrev pub optionOf : List ℕ → OptionRecord → Opt
+optionOf s r = record { number = r .number; value = valueOf s r }
+
+-- The message of a packet: version, type, code byte, id, token bytes, list of (number, value bytes), payload bytes.
+abbrev pub meaning : List ℕ → Packet → Message
+meaning s p =
+    record {
+      version = p .header .version;
+      type = numberOfType (p .header .«message_type»);
+      code = byteOf (p .header .code);
+      id = p .header .«message_id»;
+      token = bytesOf s (p .token .start) (p .token .len);
+      options = map (optionOf s) (recordsOf p);
+      payload = bytesOf s (p .payload .start) (p .payload .len);
+    }

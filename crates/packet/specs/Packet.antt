@@ -1,0 +1,47 @@
+-- What a packet is, what its ranges name in a store, and the new packet.
+use Prim.Native.Nat.{ℕ, _+_}
+use mathlib.Core.List.{List, [], _∷_}
+use lib.ListN.{length, take, getD, replicate}
+use lib.Dec.{leb, eqb}
+use Rattle.rfc.specs.Choice.{pick}
+use Rattle.rfc.specs.Part.{part}
+use Rattle.header.specs.Header.{newHeader}
+use Rattle.packet.specs.declared.Packet.{Packet}
+use Rattle.packet.specs.declared.OptionRecord.{OptionRecord}
+use Rattle.packet.specs.declared.Range.{Range}
+use Rattle.packet.specs.declared.NumberAt.{NumberAt}
+use Rattle.packet.specs.declared.NumberAt.the-variants.{Number, Absent}
+
+-- The record of no option.
+abbrev pub none : OptionRecord
+none = record { number = 0; spare = 0; start = 0; len = 0 }
+
+-- The range of no bytes.
+abbrev pub nowhere : Range
+nowhere = record { start = 0; len = 0 }
+
+-- Version 1, confirmable, GET, id 0, and all else empty.
+unfoldable pub newPacket : Packet
+newPacket =
+    record { header = newHeader; token = nowhere; count = 0; options = replicate 128 none; payload = nowhere }
+
+-- The bytes that a range names: those from its start where it is inside the store, as whole numbers, and else none.
+unfoldable pub bytesOf : List ℕ → ℕ → ℕ → List ℕ
+bytesOf s start len = pick (leb (start + len) (length s)) (part s start len) []
+
+-- The records in use; a count over 128 reads as 128.
+abbrev pub recordsOf : Packet → List OptionRecord
+recordsOf p = take (p .count) (p .options)
+
+-- The records of a number, in their order.
+abbrev pub ofNumber : ℕ → List OptionRecord → List OptionRecord
+ofNumber n [] = []
+ofNumber n (r ∷ rs) = pick (eqb (r .number) n) (r ∷ ofNumber n rs) (ofNumber n rs)
+
+-- The value of a record in a store.
+abbrev pub valueOf : List ℕ → OptionRecord → List ℕ
+valueOf s r = bytesOf s (r .start) (r .len)
+
+-- The number of the record at an index, if there is such a record.
+abbrev pub numberAt : List OptionRecord → ℕ → NumberAt
+numberAt rs n = pick (leb (length rs) n) Absent (Number (getD rs n none .number))

@@ -1,0 +1,217 @@
+// A packet: a header, and the token, option values and payload as ranges of one lent store of bytes (packet.rs).
+use header::Header;
+ghost use mathlib.Core.Path.{_≡_};
+ghost use lib.ListN.{length, getD};
+ghost use lib.Dec.{ltb};
+ghost use Rattle.packet.specs.Packet.{newPacket, none, bytesOf, valueOf, recordsOf, ofNumber, numberAt};
+
+mod judge;
+
+pub use judge::Judged;
+
+// A range of the store.
+pub struct Range {
+    pub start: u32,
+    pub len: u32,
+}
+
+// An option: its number, and its value as a range of the store. The spare field fills the record to three words, so that
+// an array of records is cleared and copied in one go; it is 0 in every record that is made here.
+pub struct OptionRecord {
+    pub number: u16,
+    pub spare: u16,
+    pub start: u32,
+    pub len: u32,
+}
+
+pub struct Packet {
+    pub header: Header,
+    pub token: Range,
+    pub count: usize,
+    pub options: [OptionRecord; 128],
+    pub payload: Range,
+}
+
+impl OptionRecord {
+    // The record of no option: what stands in the array past the count.
+    pub const EMPTY: OptionRecord = OptionRecord {
+        number: 0,
+        spare: 0,
+        start: 0,
+        len: 0,
+    };
+}
+
+impl Range {
+    // The bytes that the range names, as a part of the store; none where it is not inside the store.
+    pub fn part<'a>(self, store: &'a [u8]) -> &'a [u8]
+        ensures { λ r. ⌜ now r ≡ bytesOf (now (store .entry)) (self .start) (self .len) ⌝ }
+    {
+        let start = self.start as usize;
+        let end = start + self.len as usize;
+        if store.len() < end {
+            return &store[0..0];
+        }
+        &store[start..end]
+    }
+}
+
+impl OptionRecord {
+    // The option's value, as a part of the store.
+    pub fn value<'a>(self, store: &'a [u8]) -> &'a [u8]
+        ensures { λ r. ⌜ now r ≡ bytesOf (now (store .entry)) (self .start) (self .len) ⌝ }
+    {
+        let range = Range {
+            start: self.start,
+            len: self.len,
+        };
+        range.part(store)
+    }
+}
+
+// The number of an option, or that there is no such option.
+pub enum NumberAt {
+    Number(u16),
+    Absent,
+}
+
+impl Packet {
+    // The largest message that is written by default.
+    pub const MAX_SIZE: usize = 1280;
+
+    // Version 1, confirmable, GET, id 0, and all else empty.
+    pub fn new() -> Packet
+        ensures { λ r. ⌜ r ≡ newPacket ⌝ }
+    {
+        Packet {
+            header: Header::new(),
+            token: Range { start: 0, len: 0 },
+            count: 0,
+            options: [OptionRecord::EMPTY; 128],
+            payload: Range { start: 0, len: 0 },
+        }
+    }
+
+    // The token, as a part of the store.
+    pub fn get_token<'a>(self, store: &'a [u8]) -> &'a [u8]
+        ensures { λ r. ⌜ now r ≡ bytesOf (now (store .entry)) (self .token .start) (self .token .len) ⌝ }
+    {
+        let token = self.token;
+        token.part(store)
+    }
+
+    // The payload, as a part of the store.
+    pub fn get_payload<'a>(self, store: &'a [u8]) -> &'a [u8]
+        ensures { λ r. ⌜ now r ≡ bytesOf (now (store .entry)) (self .payload .start) (self .payload .len) ⌝ }
+    {
+        let payload = self.payload;
+        payload.part(store)
+    }
+
+    // How many options there are; a count over 128 reads as 128.
+    pub fn option_count(self) -> usize
+        ensures { λ r. ⌜ r ≡ length (recordsOf self) ⌝ }
+    {
+        let count = self.count;
+        if 128 < count {
+            return 128;
+        }
+        count
+    }
+
+    // The record of the option at an index; the empty record past the last.
+    fn record_at(self, n: usize) -> OptionRecord
+        ensures { λ r. ⌜ r ≡ getD (recordsOf self) n none ⌝ }
+    {
+        let count = self.count;
+        if 128 <= n {
+            return OptionRecord::EMPTY;
+        }
+        if count <= n {
+            return OptionRecord::EMPTY;
+        }
+        self.options[n]
+    }
+
+    // The number of the option at an index.
+    pub fn option_number(self, n: usize) -> NumberAt
+        ensures { λ r. ⌜ r ≡ numberAt (recordsOf self) n ⌝ }
+    {
+        if self.option_count() <= n {
+            return NumberAt::Absent;
+        }
+        let record = self.record_at(n);
+        NumberAt::Number(record.number)
+    }
+
+    // The value of the option at an index, as a part of the store.
+    pub fn option_value<'a>(self, store: &'a [u8], n: usize) -> &'a [u8]
+        ensures { λ r. ⌜ now r ≡ valueOf (now (store .entry)) (getD (recordsOf self) n none) ⌝ }
+    {
+        let record = self.record_at(n);
+        record.value(store)
+    }
+
+    // How many options have the number.
+    pub fn count_of(self, number: u16) -> usize
+        ensures { λ r. ⌜ r ≡ length (ofNumber number (recordsOf self)) ⌝ }
+    {
+        let count = self.option_count();
+        let mut found = 0;
+        let mut i = 0;
+        while i < count {
+            let record = self.options[i];
+            if record.number == number {
+                found = found + 1;
+                i = i + 1;
+            } else {
+                i = i + 1;
+            }
+        }
+        found
+    }
+
+    // Whether an option has the number.
+    pub fn has_option(self, number: u16) -> bool
+        ensures { λ r. ⌜ r ≡ ltb 0 (length (ofNumber number (recordsOf self))) ⌝ }
+    {
+        0 < self.count_of(number)
+    }
+
+    // The record of the n-th option of a number, counted from 0; the empty record where there is none.
+    pub fn record_of(self, number: u16, n: usize) -> OptionRecord
+        ensures { λ r. ⌜ r ≡ getD (ofNumber number (recordsOf self)) n none ⌝ }
+    {
+        let count = self.option_count();
+        let mut left = n;
+        let mut i = 0;
+        while i < count {
+            let record = self.options[i];
+            if record.number == number {
+                if left == 0 {
+                    return record;
+                }
+                left = left - 1;
+                i = i + 1;
+            } else {
+                i = i + 1;
+            }
+        }
+        OptionRecord::EMPTY
+    }
+
+    // The n-th value of a number, counted from 0, as a part of the store.
+    pub fn get_option<'a>(self, store: &'a [u8], number: u16, n: usize) -> &'a [u8]
+        ensures { λ r. ⌜ now r ≡ valueOf (now (store .entry)) (getD (ofNumber number (recordsOf self)) n none) ⌝ }
+    {
+        let record = self.record_of(number, n);
+        record.value(store)
+    }
+
+    // The first value of a number, as a part of the store.
+    pub fn get_first_option<'a>(self, store: &'a [u8], number: u16) -> &'a [u8]
+        ensures { λ r. ⌜ now r ≡ valueOf (now (store .entry)) (getD (ofNumber number (recordsOf self)) 0 none) ⌝ }
+    {
+        self.get_option(store, number, 0)
+    }
+}

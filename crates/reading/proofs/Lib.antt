@@ -1,0 +1,6 @@
+pub mod Within
+pub mod Walk
+pub mod Sound
+pub mod Accept
+pub mod Complete
+pub mod Kept
