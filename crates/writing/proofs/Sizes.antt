@@ -1,0 +1,91 @@
+-- The sizes of what is written: the bytes of a good packet are as many as were counted.
+use Prim.Native.Nat.{ℕ, _+_, _<_, _≤_}
+use mathlib.Core.Path.{_≡_, refl, _∙_}
+use mathlib.Core.Bool.{Bool, true, false}
+use mathlib.Core.List.{List, [], _∷_, map}
+use native.Mathlib.Omega.{arith}
+use lib.ListN.{length, drop, length-append, length-take, length-drop}
+use borrow.Author.Tests.{lt-ltb, le-ltb, le-leb}
+use Rattle.rfc.specs.Message.{Message, extensionOf, optionLayout, optionsLayout, payloadLayout, headerLayout, layout}
+use Rattle.rfc.proofs.Choice.{on-lt}
+use Rattle.header.specs.declared.MessageClass.{MessageClass}
+use Rattle.header.specs.declared.MessageClass.the-variants.{Empty, Request, Response, Reserved}
+use Rattle.packet.specs.Packet.{bytesOf, recordsOf}
+use Rattle.packet.specs.Meaning.{optionOf, meaning}
+use Rattle.packet.specs.Judge.{badValue, badValues, extensionSize, optionSize, optionsSize}
+use Rattle.packet.specs.declared.Packet.{Packet}
+use Rattle.packet.specs.declared.Range.{Range}
+use Rattle.packet.specs.declared.OptionRecord.{OptionRecord}
+use Rattle.packet.proofs.Good.{Good, value-inside}
+use Rattle.rfc.proofs.Choice.{neither}
+use Rattle.writing.specs.Writing.{sentPayload, sent, bytesWritten, markerSize, counted, writtenSize}
+use Rattle.writing.proofs.Pieces.{option-length}
+
+-- A range inside the store names as many bytes as it says.
+pub bytes-exactly : (s : List ℕ) (start len : ℕ) → start + len ≤ length s → length (bytesOf s start len) ≡ len
+unfolding bytesOf
+bytes-exactly s start len h = rw (le-leb (start + len) (length s) h) (omega (arith, length-take len (drop start s), length-drop start s))
+
+-- The lengths of an extension, of an option of a good value, and of all of them, are those that are counted.
+pub extension-length : (n : ℕ) → length (extensionOf n) ≡ extensionSize n
+unfolding extensionOf extensionSize
+extension-length n =
+    on-lt (λ (l : List ℕ). length l ≡ extensionSize n) n 13 (λ h. simp (lt-ltb n 13 h))
+    (λ h. on-lt (λ (l : List ℕ). length l ≡ extensionSize n) n 269 (λ k. simp (le-ltb n 13 h, lt-ltb n 269 k)) (λ k. simp (le-ltb n 13 h, le-ltb n 269 k)))
+
+pub option-exactly : (s : List ℕ) (before : ℕ) (r : OptionRecord) → badValue (length s) r ≡ false → length (optionLayout before (optionOf s r)) ≡ optionSize before r
+unfolding optionSize
+option-exactly s before r e =
+    let n : length (bytesOf s (r .start) (r .len)) ≡ r .len = bytes-exactly s (r .start) (r .len) (value-inside (length s) r e) in
+    option-length before (optionOf s r) ∙ rw (n, extension-length, extension-length)
+
+pub options-exactly : (s : List ℕ) (before : ℕ) (rs : List OptionRecord) → badValues (length s) rs ≡ false → length (optionsLayout before (map (optionOf s) rs)) ≡ optionsSize before rs
+options-exactly s before [] e = refl
+options-exactly s before (r ∷ rs) e =
+    let both = neither (badValue (length s) r) (badValues (length s) rs) e in
+    rw (length-append, option-exactly s before r (both .0), options-exactly s (r .number) rs (both .1))
+
+-- A marker takes at most a byte, and a payload its own and its marker's.
+pub marker-small : (len : ℕ) → markerSize len ≤ 1
+unfolding markerSize
+marker-small len = on-lt (λ (k : ℕ). k ≤ 1) 0 len (λ h. omega arith) (λ h. omega arith)
+
+pub payload-length : (bytes : List ℕ) → length (payloadLayout bytes) ≡ length bytes + markerSize (length bytes)
+unfolding markerSize
+payload-length [] = refl
+payload-length (b ∷ bs) = let h : 0 < length (b ∷ bs) = omega arith in rw (lt-ltb 0 (length (b ∷ bs)) h) (omega arith)
+
+-- The length of a message by its parts.
+pub message-length : (m : Message) → length (layout m) ≡ 4 + length (m .token) + length (optionsLayout 0 (m .options)) + length (payloadLayout (m .payload))
+unfolding layout headerLayout
+message-length m = simp length-append (omega arith)
+
+-- The payload that is sent is inside the store where the packet's is.
+pub sent-inside : (store : ℕ) (strict : Bool) (class : MessageClass) (payload : Range) → payload .start + payload .len ≤ store
+    → sentPayload strict class payload .start + sentPayload strict class payload .len ≤ store
+sent-inside store true class payload h = h
+sent-inside store false Empty payload h = omega arith
+sent-inside store false (Request r) payload h = h
+sent-inside store false (Response r) payload h = h
+sent-inside store false (Reserved b) payload h = h
+
+-- The bytes of a good packet, as many as `writtenSize` says.
+pub written-length : (strict : Bool) (s : List ℕ) (p : Packet) → Good (length s) p → length (bytesWritten strict s p) ≡ writtenSize strict p
+written-length strict s p g =
+    let q = sentPayload strict (p .header .code) (p .payload) in
+    let token = bytes-exactly s (p .token .start) (p .token .len) (g .token) in
+    let payload = bytes-exactly s (q .start) (q .len) (sent-inside (length s) strict (p .header .code) (p .payload) (g .payload)) in
+    let options = options-exactly s 0 (recordsOf p) (g .values) in
+    message-length (meaning s (sent strict p)) ∙ rw (token, options, payload-length, payload) (omega arith)
+
+-- What is counted is what is written, and a payload that is dropped; so strict counts what it writes.
+pub counted-written : (strict : Bool) (s : List ℕ) (p : Packet) → Good (length s) p
+    → counted strict p + sentPayload strict (p .header .code) (p .payload) .len ≡ length (bytesWritten strict s p) + p .payload .len
+counted-written strict s p g = rw (written-length strict s p g) (omega arith)
+
+pub strict-counted : (s : List ℕ) (p : Packet) → Good (length s) p → length (layout (meaning s p)) ≡ counted true p
+strict-counted s p g = written-length true s p g
+
+-- The header alone is four bytes, so 18 is never met.
+pub four : (strict : Bool) (p : Packet) → 4 ≤ counted strict p
+four strict p = omega arith

@@ -1,0 +1,183 @@
+-- Strict writing: what it accepts is exactly the well-formed messages for which limit and room suffice.
+use Prim.Native.Nat.{ℕ, zero, suc, _+_, _≤_}
+use mathlib.Core.Path.{_≡_, refl, sym, ap, _∙_}
+use mathlib.Core.Bool.{Bool, true, false, not}
+use mathlib.Core.List.{List, [], _∷_, _++_, map}
+use native.Mathlib.Omega.{arith}
+use lib.ListN.{length, take, drop, length-take, length-map}
+use lib.Dec.{ltb, eqb}
+use borrow.Author.Tests.{le-ltb, eq-eqb, ltb-false, eqb-true, not-false}
+use Rattle.rfc.specs.Choice.{both, either}
+use Rattle.rfc.specs.Part.{Bytes}
+use Rattle.rfc.specs.Message.{Rising, Options, Bare, WellFormed, layout}
+use Rattle.rfc.proofs.Choice.{on, on-lt, on-le, on-eq}
+use Rattle.rfc.proofs.Part.{bytes-take, bytes-drop}
+use Rattle.refusal.specs.Answer.{Answer, given, refused, fitted, after}
+use Rattle.header.specs.Class.{byteOf}
+use Rattle.header.proofs.Raw.{type-small}
+use Rattle.packet.specs.Packet.{bytesOf, recordsOf}
+use Rattle.packet.specs.Meaning.{meaning, optionOf}
+use Rattle.packet.specs.Judge.{falling, badValue, badValues, badPacket}
+use Rattle.packet.specs.Shape.{Numbers, Shaped}
+use Rattle.packet.specs.declared.Packet.{Packet}
+use Rattle.packet.specs.declared.OptionRecord.{OptionRecord}
+use Rattle.packet.proofs.Good.{Good, good, value-length}
+use Rattle.rfc.proofs.Choice.{neither}
+use Rattle.writing.specs.Writing.{writing, strictly, limited, counted, over, emptyCarries, writtenSize, sizeFitted, bytesWritten}
+use Rattle.writing.specs.declared.Limit.{Limit}
+use Rattle.writing.proofs.Options.{bytes-at-most}
+use Rattle.writing.proofs.Sizes.{bytes-exactly, strict-counted, four}
+use Rattle.writing.proofs.Answers.{goes-on}
+
+-- What strict mode asks besides: it is refused by none of 7, 2 and 8.
+pub record Passed (p : Packet) : Type 0 where
+  pub version : p .header .version ≡ 1
+  pub token : p .token .len ≤ 8
+  pub empty : emptyCarries p ≡ false
+
+never : (k n : ℕ) → _≡_ {A = Answer ℕ} (refused k) (given n) → ⊥
+never k n e = let z : _≡_ {A = ℕ} 0 1 = cc in omega arith
+
+-- A packet that passes goes on, and one that goes on has passed.
+pub passes : (p : Packet) (a : Answer ℕ) → Passed p → strictly true p a ≡ a
+unfolding strictly
+passes p a h = rw (eq-eqb (p .header .version) 1 (h .version), le-ltb 8 (p .token .len) (h .token), h .empty)
+
+pub passed : (p : Packet) (a : Answer ℕ) (n : ℕ) → strictly true p a ≡ given n → Passed p × (a ≡ given n)
+unfolding strictly
+passed p a n =
+    on (λ (b : Answer ℕ). b ≡ given n → Passed p × (a ≡ given n)) (not (eqb (p .header .version) 1)) (λ v e. absurd (never 7 n e))
+    (λ v. on (λ (b : Answer ℕ). b ≡ given n → Passed p × (a ≡ given n)) (ltb 8 (p .token .len)) (λ t e. absurd (never 2 n e))
+    (λ t. on (λ (b : Answer ℕ). b ≡ given n → Passed p × (a ≡ given n)) (emptyCarries p) (λ k e. absurd (never 8 n e))
+    (λ k e. (record { version = eqb-true (p .header .version) 1 (not-false (eqb (p .header .version) 1) v); token = ltb-false 8 (p .token .len) t; empty = k }, e))))
+
+-- Bytes that a range names in a store of bytes are bytes; a range of none names none.
+pub bytes-named : (s : List ℕ) (start len : ℕ) → Bytes s → Bytes (bytesOf s start len)
+unfolding bytesOf
+bytes-named s start len b = on-le Bytes (start + len) (length s) (λ h. bytes-take len (drop start s) (bytes-drop start s b)) (λ h. tt)
+
+no-elements : {A : Type 0} (l : List A) → length l ≡ 0 → l ≡ []
+no-elements [] e = refl
+no-elements (x ∷ l) e = absurd (omega (arith, e))
+
+no-bytes : (s : List ℕ) (start len : ℕ) → len ≡ 0 → bytesOf s start len ≡ []
+no-bytes s start len e = no-elements (bytesOf s start len) (omega (arith, bytes-at-most s start len))
+
+-- Numbers that never fall, rise.
+pub rising : (s : List ℕ) (before : ℕ) (rs : List OptionRecord) → falling before rs ≡ false → Rising before (map (optionOf s) rs)
+rising s before [] e = tt
+rising s before (r ∷ rs) e =
+    let both = neither (ltb (r .number) before) (falling (r .number) rs) e in
+    (ltb-false (r .number) before (both .0), rising s (r .number) rs (both .1))
+
+-- Good records mean options that keep to what an option may.
+pub options : (s : List ℕ) (rs : List OptionRecord) → Bytes s → Numbers rs → badValues (length s) rs ≡ false → Options (map (optionOf s) rs)
+options s [] b n e = tt
+options s (r ∷ rs) b n e =
+    let both = neither (badValue (length s) r) (badValues (length s) rs) e in
+    (omega (arith, n .0), omega (arith, bytes-at-most s (r .start) (r .len), value-length (length s) r (both .0)), bytes-named s (r .start) (r .len) b, options s rs b (n .1) (both .1))
+
+numbers-take : (n : ℕ) (rs : List OptionRecord) → Numbers rs → Numbers (take n rs)
+numbers-take zero rs h = tt
+numbers-take (suc n) [] h = tt
+numbers-take (suc n) (r ∷ rs) h = (h .0, numbers-take n rs (h .1))
+
+-- Nothing that an empty message could carry.
+module _ (s : List ℕ) (p : Packet) where
+  nothing : emptyCarries p ≡ false → byteOf (p .header .code) ≡ 0 → Bare (meaning s p)
+  nothing e z =
+      let t = ltb 0 (p .token .len) in
+      let q = ltb 0 (p .payload .len) in
+      let k = ltb 0 (p .count) in
+      let none : either t (either k q) ≡ false = ap (λ (b : Bool). both b (either t (either k q))) (sym (eq-eqb (byteOf (p .header .code)) 0 z)) ∙ e in
+      let first = neither t (either k q) none in
+      let rest = neither k q (first .1) in
+      record {
+        token = no-bytes s (p .token .start) (p .token .len) (omega (arith, ltb-false 0 (p .token .len) (first .0)));
+        options = no-elements (map (optionOf s) (recordsOf p)) (length-map (recordsOf p) (optionOf s) ∙ omega (arith, length-take (p .count) (p .options), ltb-false 0 (p .count) (rest .0)));
+        payload = no-bytes s (p .payload .start) (p .payload .len) (omega (arith, ltb-false 0 (p .payload .len) (rest .1)));
+      }
+
+  module _ (shaped : Shaped p) (g : Good (length s) p) where
+    -- What passes strict mode means a well-formed message.
+    pub strict-wellformed : Bytes s → Passed p → WellFormed (meaning s p)
+    strict-wellformed b h =
+        record {
+          version = h .version;
+          type = omega (arith, type-small (p .header .«message_type»));
+          code = omega (arith, shaped .code);
+          id = omega (arith, shaped .id);
+          token-length = omega (arith, bytes-at-most s (p .token .start) (p .token .len), h .token);
+          token = bytes-named s (p .token .start) (p .token .len) b;
+          count = rw (length-map (recordsOf p) (optionOf s)) (omega (arith, length-take (p .count) (p .options), g .count));
+          rising = rising s 0 (recordsOf p) (g .ordered);
+          options = options s (recordsOf p) b (numbers-take (p .count) (p .options) (shaped .numbers)) (g .values);
+          payload = bytes-named s (p .payload .start) (p .payload .len) b;
+          empty = nothing (h .empty);
+        }
+
+    -- A bare message has no token, no records and no payload.
+    carries-none : Bare (meaning s p) → either (ltb 0 (p .token .len)) (either (ltb 0 (p .count)) (ltb 0 (p .payload .len))) ≡ false
+    carries-none m =
+        let t : p .token .len ≡ 0 = sym (bytes-exactly s (p .token .start) (p .token .len) (g .token)) ∙ ap length (m .token) in
+        let q : p .payload .len ≡ 0 = sym (bytes-exactly s (p .payload .start) (p .payload .len) (g .payload)) ∙ ap length (m .payload) in
+        let k : p .count ≡ 0 = omega (arith, length-take (p .count) (p .options), sym (length-map (recordsOf p) (optionOf s)) ∙ ap length (m .options), g .count, shaped .array) in
+        rw (t, k, q)
+
+    -- A well-formed message passes strict mode.
+    pub wellformed-strict : WellFormed (meaning s p) → Passed p
+    wellformed-strict w =
+        record {
+          version = w .version;
+          token = omega (arith, bytes-exactly s (p .token .start) (p .token .len) (g .token), w .token-length);
+          empty = on-eq (λ (b : Bool). b ≡ false) (byteOf (p .header .code)) 0 (λ z. carries-none (w .empty z)) (λ z. refl);
+        }
+
+-- What strict writing asks of a packet over a store: no cause of 10 or 11, a well-formed message, and that limit and room
+-- suffice for its bytes.
+pub record Writable (limit : Limit) (room : ℕ) (s : List ℕ) (p : Packet) : Type 0 where
+  pub store : length s ≤ 70000
+  pub records : badPacket (length s) p ≡ false
+  pub wellformed : WellFormed (meaning s p)
+  pub within : over limit (length (layout (meaning s p))) ≡ false
+  pub fits : length (layout (meaning s p)) ≤ room
+
+-- What an answer of each stage says, when it is a length.
+began : (limit : Limit) (room : ℕ) (s : List ℕ) (p : Packet) (n : ℕ) → writing true limit room s p ≡ given n
+    → (length s ≤ 70000) × (badPacket (length s) p ≡ false) × (strictly true p (limited limit (counted true p) (fitted room (layout (meaning s p)))) ≡ given n)
+unfolding writing
+began limit room s p n =
+    let P : Answer ℕ → Type 0 = λ b. b ≡ given n → (length s ≤ 70000) × (badPacket (length s) p ≡ false) × (strictly true p (limited limit (counted true p) (fitted room (layout (meaning s p)))) ≡ given n) in
+    on-lt P 70000 (length s) (λ h e. absurd (never 10 n e)) (λ h. on P (badPacket (length s) p) (λ b e. absurd (never 11 n e)) (λ b e. (h, b, e)))
+
+ended : (limit : Limit) (room size : ℕ) (bytes : List ℕ) (n : ℕ) → limited limit size (fitted room bytes) ≡ given n → (over limit size ≡ false) × (length bytes ≤ room) × (n ≡ length bytes)
+unfolding limited
+ended limit room size bytes n =
+    let P : Answer ℕ → Type 0 = λ b. b ≡ given n → (over limit size ≡ false) × (length bytes ≤ room) × (n ≡ length bytes) in
+    on P (over limit size) (λ o e. absurd (never 5 n e))
+    (λ o. on-lt P size 4 (λ h e. absurd (never 18 n e))
+    (λ h. on-lt P room (length bytes) (λ r e. absurd (never 12 n e)) (λ r e. (o, r, cc))))
+
+module _ (limit : Limit) (room : ℕ) (s : List ℕ) (p : Packet) (shaped : Shaped p) where
+  -- Strict writing accepts what is writable, and answers the length of its layout.
+  pub strict-writes : Writable limit room s p → writing true limit room s p ≡ given (length (layout (meaning s p)))
+  unfolding limited
+  strict-writes w =
+      let g = good (length s) p (w .records) in
+      let n = strict-counted s p g in
+      goes-on true limit room s p (w .store) (w .records)
+      ∙ (passes p (limited limit (counted true p) (sizeFitted room (writtenSize true p))) (wellformed-strict s p shaped g (w .wellformed))
+      ∙ rw (sym (ap (over limit) n) ∙ w .within, le-ltb (counted true p) 4 (four true p), sym n, le-ltb room (length (layout (meaning s p))) (w .fits)))
+
+  -- The output then begins with the layout of what the packet means.
+  pub strict-output : Writable limit room s p → (old : List ℕ) → after (writing true limit room s p) (bytesWritten true s p) old ≡ layout (meaning s p) ++ drop (length (layout (meaning s p))) old
+  strict-output w old = rw (strict-writes w)
+
+  -- It accepts nothing else, and no other length is its answer.
+  pub strict-written : Bytes s → (n : ℕ) → writing true limit room s p ≡ given n → Writable limit room s p × (n ≡ length (layout (meaning s p)))
+  strict-written b n e =
+      let first = began limit room s p n e in
+      let g = good (length s) p (first .1) in
+      let second = passed p (limited limit (counted true p) (fitted room (layout (meaning s p)))) n (first .2) in
+      let third = ended limit room (counted true p) (layout (meaning s p)) n (second .1) in
+      (record { store = first .0; records = first .1; wellformed = strict-wellformed s p shaped g b (second .0); within = ap (over limit) (strict-counted s p g) ∙ third .0; fits = third .1 }, third .2)

@@ -1,0 +1,14 @@
+-- `wrong_version`: plain asks nothing.
+
+use borrow.Author.Needs.{needs}
+use Rattle.writing.proofs.wrong_version.Statement.{statement}
+use Rattle.writing.proofs.wrong_version.Tie as tie
+
+returns : tie.Need-returns
+returns c = rw (c .if1 .taken)
+
+returns-2 : tie.Need-returns-2
+returns-2 c = search needs
+
+pub wrong-version-spec : {M : Type 1} → statement M
+wrong-version-spec = tie.close (tie.spec returns returns-2)
