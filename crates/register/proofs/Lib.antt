@@ -1,0 +1,4 @@
+pub mod Rows
+pub mod Walk
+pub mod First
+pub mod Examples
