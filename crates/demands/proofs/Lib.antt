@@ -1,0 +1,6 @@
+pub mod Determined
+pub mod Refusals
+pub mod StrictReading
+pub mod StrictWriting
+pub mod RoundTrips
+pub mod Samples

@@ -1,0 +1,5 @@
+pub mod Determined
+pub mod Refusals
+pub mod StrictReading
+pub mod StrictWriting
+pub mod RoundTrips

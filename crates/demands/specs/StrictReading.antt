@@ -1,0 +1,29 @@
+-- Strict reading: a datagram of at most 70,000 bytes is accepted exactly when some well-formed message has those bytes as its
+-- RFC 7252 layout; there is only one such message, and the answer is that one.
+use Prim.Native.Nat.{ℕ}
+use mathlib.Core.Path.{_≡_}
+use mathlib.Core.Logic.{_↔_}
+use mathlib.Core.Bool.{true}
+use mathlib.Core.List.{List}
+use Rattle.rfc.specs.Message.{Message, WellFormed, layout}
+use Rattle.refusal.specs.declared.Outcome.the-variants.{Done}
+use Rattle.packet.specs.Meaning.{meaning}
+use Rattle.reading.specs.Reading.{decoded, readOf, reading}
+use Rattle.reading.specs.declared.Decoded.{Decoded}
+
+-- What `from_bytes_strict` promises of its answer to a datagram.
+abbrev pub FromBytesStrict : List ℕ → Decoded → Type 0
+FromBytesStrict s d = decoded d ≡ readOf (reading true s)
+
+-- A well-formed message whose layout is the datagram.
+pub record IsLayoutOf (s : List ℕ) (m : Message) : Type 0 where
+  pub well-formed : WellFormed m
+  pub bytes : layout m ≡ s
+
+pub record StrictReading (s : List ℕ) (d : Decoded) : Type 0 where
+  -- Accepted exactly when there is such a message.
+  pub accepts : (d .outcome ≡ Done) ↔ ((m : Message) × IsLayoutOf s m)
+  -- There is only one.
+  pub one : (m n : Message) → IsLayoutOf s m → IsLayoutOf s n → m ≡ n
+  -- The answer is that one.
+  pub answer : (m : Message) → IsLayoutOf s m → meaning s (d .packet) ≡ m
