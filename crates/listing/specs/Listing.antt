@@ -1,0 +1,22 @@
+-- What the listing program prints.
+use Prim.Native.Nat.{ℕ}
+use mathlib.Core.Bool.{true}
+use mathlib.Core.List.{List}
+use lib.ListN.{length}
+use lib.Dec.{ltb}
+use Rattle.rfc.specs.Choice.{pick}
+use Rattle.packet.specs.Meaning.{meaning}
+use Rattle.reading.specs.Reading.{Read, readOf, reading}
+use Rattle.printing.specs.Lines.{linesOf, refusalLine}
+
+-- The byte that ends a line.
+abbrev pub newline : ℕ
+newline = 10
+
+-- What a reader's answer to a datagram prints.
+abbrev pub answer : List ℕ → Read → List ℕ
+answer s r = linesOf newline (r .answer) (meaning s (r .packet))
+
+-- The lines of a datagram that is read strictly; one over 65,535 bytes is TooLong (10).
+unfoldable pub listing : List ℕ → List ℕ
+listing s = pick (ltb 65535 (length s)) (refusalLine newline 10) (answer s (readOf (reading true s)))

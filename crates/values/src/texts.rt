@@ -1,0 +1,62 @@
+// Text values: what is UTF-8, and what is not.
+use crate::say;
+use option_value::Text;
+use option_value::option_from_text;
+use option_value::option_to_text;
+use option_value::text_part;
+
+// Judges a value, hands it back, and writes it to an output of eight bytes.
+fn row(value: &[u8]) {
+    let mut out = [0u8; 8];
+    let answer = option_from_text(value, &mut out);
+    say::bytes(b"text ", value, b" ");
+    match option_to_text(value) {
+        Text::Valid => say::text(b"is valid"),
+        Text::Refused(why) => say::refused(why, b""),
+    }
+    say::bytes(b", its part ", text_part(value), b", writes ");
+    say::written(answer, &out, b"\n");
+}
+
+// The examples of RFC 3629, section 7, but for those over eight bytes, which the last row has.
+fn valid() {
+    row(&[]);
+    row(b"test");
+    row(&[0x41, 0xE2, 0x89, 0xA2, 0xCE, 0x91, 0x2E]);
+    row(&[0xEF, 0xBB, 0xBF, 0xF0, 0xA3, 0x8E, 0xB4]);
+    row(&[0xE6, 0x97, 0xA5, 0xE6, 0x9C, 0xAC, 0xE8, 0xAA, 0x9E]);
+}
+
+// The first and the last character of each length, and those beside the surrogates.
+fn borders() {
+    row(&[0x00, 0x7F]);
+    row(&[0xC2, 0x80, 0xDF, 0xBF]);
+    row(&[0xE0, 0xA0, 0x80, 0xEF, 0xBF, 0xBF]);
+    row(&[0xED, 0x9F, 0xBF, 0xEE, 0x80, 0x80]);
+    row(&[0xF0, 0x90, 0x80, 0x80, 0xF4, 0x8F, 0xBF, 0xBF]);
+}
+
+fn invalid() {
+    row(&[0x80]);
+    row(&[0xBF]);
+    row(&[0xC0, 0x80]);
+    row(&[0x2F, 0xC0, 0xAE, 0x2E, 0x2F]);
+    row(&[0xC1, 0xBF]);
+    row(&[0xE0, 0x9F, 0xBF]);
+    row(&[0xED, 0xA0, 0x80]);
+    row(&[0xED, 0xBF, 0xBF]);
+    row(&[0xF0, 0x8F, 0xBF, 0xBF]);
+    row(&[0xF4, 0x90, 0x80, 0x80]);
+    row(&[0xF5, 0x80, 0x80, 0x80]);
+    row(&[0xFE]);
+    row(&[0xFF]);
+    row(&[0x41, 0xE2, 0x89]);
+    row(&[0xE2, 0x89, 0x41]);
+    row(&[0xC2, 0xC2, 0x80]);
+}
+
+pub fn print() {
+    valid();
+    borders();
+    invalid();
+}
