@@ -1,0 +1,202 @@
+//! Times reading and writing of the same messages by the Rattle code and by coap-lite, and prints the ratio.
+//! A time is the least of many short runs, in nanoseconds for one call; a ratio under 1 is in favour of the Rattle code.
+
+use coap_lite::{MessageClass, MessageType, Packet};
+use std::hint::black_box;
+use std::time::{Duration, Instant};
+
+/// The largest flat form: 9 numbers, and 3 for each of 128 options.
+const MOST_NUMBERS: usize = 9 + 3 * 128;
+/// The largest datagram that is read.
+const MOST_BYTES: usize = 70_000;
+/// How long one run takes, and how many there are of each side.
+const RUN: Duration = Duration::from_micros(500);
+const RUNS: usize = 100;
+
+// crates/ffi/src/lib.rt: a slice is a pointer and a length.
+extern "C" {
+    fn rickwinter_read(strict: bool, datagram: *const u8, len: usize, out: *mut u32, room: usize) -> u32;
+    fn rickwinter_write(
+        strict: bool,
+        packet: *const u32,
+        numbers: usize,
+        store: *const u8,
+        len: usize,
+        out: *mut u8,
+        room: usize,
+    ) -> u64;
+    fn rickwinter_copy(strict: bool, datagram: *const u8, len: usize, out: *mut u8, room: usize) -> u64;
+}
+
+fn read(datagram: &[u8], out: &mut [u32]) -> u32 {
+    // SAFETY: the pointers and lengths are those of slices, and the function is proved to stay within them.
+    unsafe { rickwinter_read(false, datagram.as_ptr(), datagram.len(), out.as_mut_ptr(), out.len()) }
+}
+
+fn write(packet: &[u32], store: &[u8], out: &mut [u8]) -> u64 {
+    // SAFETY: as above.
+    unsafe {
+        rickwinter_write(
+            false,
+            packet.as_ptr(),
+            packet.len(),
+            store.as_ptr(),
+            store.len(),
+            out.as_mut_ptr(),
+            out.len(),
+        )
+    }
+}
+
+fn copy(datagram: &[u8], out: &mut [u8]) -> u64 {
+    // SAFETY: as above.
+    unsafe { rickwinter_copy(false, datagram.as_ptr(), datagram.len(), out.as_mut_ptr(), out.len()) }
+}
+
+fn main() {
+    println!("{:34}{:>27}{:>27}{:>27}", "", "read", "write", "read and write");
+    println!("{:26}{:>8}{}", "message", "bytes", "     ours   theirs    ratio".repeat(3));
+    measure("(a) GET, 4 options", &get());
+    measure("(b) 2.05, 1,024 of payload", &content());
+    measure("(c) 40 options of 8", &message(40, 0));
+    for options in [0, 8, 16, 32, 64, 128] {
+        measure(&format!("{options} options of 8"), &message(options, 0));
+    }
+    for payload in [0, 1 << 10, 4 << 10, 16 << 10, 64 << 10] {
+        measure(&format!("{payload} of payload"), &message(0, payload));
+    }
+}
+
+/// A request for coap://example.com/sensors/temp.
+fn get() -> Vec<u8> {
+    let mut datagram = vec![0x44, 0x01, 0x12, 0x34, 0xDE, 0xAD, 0xBE, 0xEF];
+    let options: [(u16, &[u8]); 4] = [(3, b"example.com"), (11, b"sensors"), (11, b"temp"), (17, &[50])];
+    append(&mut datagram, &options, 0);
+    assert_eq!(datagram.len(), 35);
+    datagram
+}
+
+/// An answer with ETag, Content-Format and Max-Age.
+fn content() -> Vec<u8> {
+    let mut datagram = vec![0x64, 0x45, 0x12, 0x34, 0xDE, 0xAD, 0xBE, 0xEF];
+    let options: [(u16, &[u8]); 3] = [(4, b"etag1234"), (12, &[50]), (14, &[60])];
+    append(&mut datagram, &options, 1024);
+    datagram
+}
+
+/// A request with so many Uri-Path options of 8 bytes, and so many bytes of payload.
+fn message(options: usize, payload: usize) -> Vec<u8> {
+    let mut datagram = vec![0x44, 0x02, 0x12, 0x34, 0xDE, 0xAD, 0xBE, 0xEF];
+    append(&mut datagram, &vec![(11, &b"segments"[..]); options], payload);
+    datagram
+}
+
+/// Options with deltas and lengths up to 12, and a payload.
+fn append(datagram: &mut Vec<u8>, options: &[(u16, &[u8])], payload: usize) {
+    let mut before = 0;
+    for &(number, value) in options {
+        datagram.push(((number - before) * 16) as u8 + value.len() as u8);
+        datagram.extend_from_slice(value);
+        before = number;
+    }
+    if payload > 0 {
+        datagram.push(0xFF);
+        datagram.extend((0..payload).map(|i| (i * 7) as u8));
+    }
+}
+
+fn measure(name: &str, datagram: &[u8]) {
+    check(name, datagram);
+    let mut numbers = [0; MOST_NUMBERS];
+    let mut bytes = vec![0; MOST_BYTES];
+    let theirs = Packet::from_bytes(datagram).unwrap();
+    read(datagram, &mut numbers);
+    let flat = numbers;
+    let pairs = [
+        least(
+            || read(black_box(datagram), black_box(&mut numbers)) as u64,
+            || Packet::from_bytes(black_box(datagram)),
+        ),
+        least(
+            || write(black_box(&flat), black_box(datagram), black_box(&mut bytes)),
+            || black_box(&theirs).to_bytes_unlimited(),
+        ),
+        least(
+            || copy(black_box(datagram), black_box(&mut bytes)),
+            || Packet::from_bytes(black_box(datagram)).map(|packet| packet.to_bytes_unlimited()),
+        ),
+    ];
+    print!("{name:26}{:>8}", datagram.len());
+    for (ours, theirs) in pairs {
+        print!("{ours:>9.0}{theirs:>9.0}{:>9.2}", ours / theirs);
+    }
+    println!();
+}
+
+/// Both sides read the same message, and write it as the datagram that it was read from.
+fn check(name: &str, datagram: &[u8]) {
+    let mut numbers = [0; MOST_NUMBERS];
+    let mut bytes = vec![0; MOST_BYTES];
+    assert_eq!(read(datagram, &mut numbers), 0, "{name}");
+    let theirs = Packet::from_bytes(datagram).unwrap();
+    assert_eq!(meaning_of_flat(&numbers, datagram), meaning(&theirs), "{name}");
+    let length = write(&numbers, datagram, &mut bytes) as usize;
+    assert_eq!(&bytes[..length], datagram, "{name}");
+    bytes.fill(0);
+    let length = copy(datagram, &mut bytes) as usize;
+    assert_eq!(&bytes[..length], datagram, "{name}");
+    assert_eq!(theirs.to_bytes_unlimited().unwrap(), datagram, "{name}");
+}
+
+type Meaning = ([u32; 4], Vec<u8>, Vec<(u32, Vec<u8>)>, Vec<u8>);
+
+fn meaning_of_flat(numbers: &[u32], store: &[u8]) -> Meaning {
+    let part = |at: usize| store[numbers[at] as usize..][..numbers[at + 1] as usize].to_vec();
+    let options = (0..numbers[8] as usize).map(|i| (numbers[9 + 3 * i], part(10 + 3 * i))).collect();
+    ([numbers[0], numbers[1], numbers[2], numbers[3]], part(4), options, part(6))
+}
+
+fn meaning(packet: &Packet) -> Meaning {
+    let kind = match packet.header.get_type() {
+        MessageType::Confirmable => 0,
+        MessageType::NonConfirmable => 1,
+        MessageType::Acknowledgement => 2,
+        MessageType::Reset => 3,
+    };
+    let code: u8 = <MessageClass as Into<u8>>::into(packet.header.code);
+    let head = [packet.header.get_version() as u32, kind, code as u32, packet.header.message_id as u32];
+    let mut options = Vec::new();
+    for (&number, values) in packet.options() {
+        options.extend(values.iter().map(|value| (number as u32, value.clone())));
+    }
+    (head, packet.get_token().to_vec(), options, packet.payload.clone())
+}
+
+/// The least time for one call of each side, over runs that take turns.
+fn least<A, B>(mut ours: impl FnMut() -> A, mut theirs: impl FnMut() -> B) -> (f64, f64) {
+    let calls = [fitting(&mut ours), fitting(&mut theirs)];
+    let mut best = [f64::MAX; 2];
+    for _ in 0..RUNS {
+        best[0] = best[0].min(time(&mut ours, calls[0]));
+        best[1] = best[1].min(time(&mut theirs, calls[1]));
+    }
+    (best[0], best[1])
+}
+
+/// How many calls make up a run.
+fn fitting<A>(call: &mut impl FnMut() -> A) -> u32 {
+    let mut calls = 1;
+    while time(call, calls) * (calls as f64) < RUN.as_nanos() as f64 {
+        calls *= 2;
+    }
+    calls
+}
+
+/// Nanoseconds for one of so many calls.
+fn time<A>(call: &mut impl FnMut() -> A, calls: u32) -> f64 {
+    let start = Instant::now();
+    for _ in 0..calls {
+        black_box(call());
+    }
+    start.elapsed().as_nanos() as f64 / calls as f64
+}
