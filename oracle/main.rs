@@ -1,0 +1,62 @@
+//! Answers requests with coap-lite's own code, writes requests to ask, and compares two lists of answers.
+//! docs/ANSWERS.md says what requests and answers are.
+#![forbid(unsafe_code)]
+
+mod answer;
+mod differ;
+mod generate;
+mod request;
+
+use std::io::{self, BufRead, BufWriter, Write};
+use std::process::ExitCode;
+use std::{env, panic};
+
+const USAGE: &str = "usage: oracle answer              the answers to the requests on standard input
+       oracle plain SEED SIZE     requests that coap-lite has to answer as the Rattle program does
+       oracle strict SEED SIZE    requests that only the Rattle program answers
+       oracle outside             requests outside coap-lite's part, to show what differs
+       oracle differ REQUESTS RUST RATTLE     how many of the answers in the two files differ
+       oracle show REQUESTS RUST RATTLE       each request with both answers";
+
+fn main() -> ExitCode {
+    let words: Vec<String> = env::args().skip(1).collect();
+    let words: Vec<&str> = words.iter().map(String::as_str).collect();
+    match run(&words) {
+        Ok(status) => status,
+        Err(error) if error.kind() == io::ErrorKind::BrokenPipe => ExitCode::SUCCESS,
+        Err(error) => {
+            eprintln!("oracle: {error}");
+            ExitCode::from(2)
+        }
+    }
+}
+
+fn run(words: &[&str]) -> io::Result<ExitCode> {
+    let mut out = BufWriter::new(io::stdout().lock());
+    let number = |word: &str| word.parse().map_err(|_| io::Error::other(format!("{word} is no number\n{USAGE}")));
+    let mut status = ExitCode::SUCCESS;
+    match *words {
+        ["answer"] => answer_all(&mut out)?,
+        ["plain", seed, size] => generate::plain(number(seed)?, number(size)? as usize, &mut out)?,
+        ["strict", seed, size] => generate::strict(number(seed)?, number(size)? as usize, &mut out)?,
+        ["outside"] => generate::outside(&mut out)?,
+        ["differ", requests, rust, rattle] => {
+            if differ::count([requests, rust, rattle], &mut out)? > 0 {
+                status = ExitCode::FAILURE;
+            }
+        }
+        ["show", requests, rust, rattle] => differ::show([requests, rust, rattle], &mut out)?,
+        _ => return Err(io::Error::other(USAGE)),
+    }
+    out.flush()?;
+    Ok(status)
+}
+
+fn answer_all(out: &mut impl Write) -> io::Result<()> {
+    // coap-lite's panics are answers here, and not to be reported.
+    panic::set_hook(Box::new(|_| ()));
+    for line in io::stdin().lock().split(b'\n') {
+        writeln!(out, "{}", answer::answer(&line?))?;
+    }
+    Ok(())
+}
