@@ -36,15 +36,7 @@ fn read(datagram: &[u8], out: &mut [u32]) -> u32 {
 fn write(packet: &[u32], store: &[u8], out: &mut [u8]) -> u64 {
     // SAFETY: as above.
     unsafe {
-        rickwinter_write(
-            false,
-            packet.as_ptr(),
-            packet.len(),
-            store.as_ptr(),
-            store.len(),
-            out.as_mut_ptr(),
-            out.len(),
-        )
+        rickwinter_write(false, packet.as_ptr(), packet.len(), store.as_ptr(), store.len(), out.as_mut_ptr(), out.len())
     }
 }
 
@@ -113,10 +105,7 @@ fn measure(name: &str, datagram: &[u8]) {
     read(datagram, &mut numbers);
     let flat = numbers;
     let pairs = [
-        least(
-            || read(black_box(datagram), black_box(&mut numbers)) as u64,
-            || Packet::from_bytes(black_box(datagram)),
-        ),
+        least(|| read(black_box(datagram), black_box(&mut numbers)) as u64, || Packet::from_bytes(black_box(datagram))),
         least(
             || write(black_box(&flat), black_box(datagram), black_box(&mut bytes)),
             || black_box(&theirs).to_bytes_unlimited(),

@@ -1,4 +1,6 @@
-// What C and Rust link: reading and writing over numbers and slices of numbers, with a packet in its flat form.
+// What C and Rust link: reading and writing over numbers and slices of numbers. A slice is a pointer and a length there.
+// A packet is in its flat form: version, type, code byte, id, start and length of the token, start and length of the
+// payload, count of records, and then number, start and length of each record.
 use header::Header;
 use header::MessageClass;
 use header::MessageType;
