@@ -6,8 +6,10 @@ mod answer;
 mod differ;
 mod generate;
 mod request;
+mod sample;
 
 use std::io::{self, BufRead, BufWriter, Write};
+use std::path::Path;
 use std::process::ExitCode;
 use std::{env, panic};
 
@@ -15,6 +17,7 @@ const USAGE: &str = "usage: oracle answer              the answers to the reques
        oracle plain SEED SIZE     requests that coap-lite has to answer as the Rattle program does
        oracle strict SEED SIZE    requests that only the Rattle program answers
        oracle outside             requests outside coap-lite's part, to show what differs
+       oracle sample FOLDER       writes requests and expected answers to FOLDER/stdin and FOLDER/stdout
        oracle differ REQUESTS RUST RATTLE     how many of the answers in the two files differ
        oracle show REQUESTS RUST RATTLE       each request with both answers";
 
@@ -39,6 +42,10 @@ fn run(words: &[&str]) -> io::Result<ExitCode> {
         ["answer"] => answer_all(&mut out)?,
         ["plain", seed, size] => generate::plain(number(seed)?, number(size)? as usize, &mut out)?,
         ["strict", seed, size] => generate::strict(number(seed)?, number(size)? as usize, &mut out)?,
+        ["sample", folder] => {
+            panic::set_hook(Box::new(|_| ()));
+            sample::write(Path::new(folder))?
+        }
         ["outside"] => generate::outside(&mut out)?,
         ["differ", requests, rust, rattle] => {
             if differ::count([requests, rust, rattle], &mut out)? > 0 {

@@ -5,6 +5,7 @@ use super::short;
 const PLAIN: &str = include_str!("plain.txt");
 const STRICT: &str = include_str!("strict.txt");
 const OUTSIDE: &str = include_str!("outside.txt");
+const DOCUMENTED: &str = include_str!("documented.txt");
 
 pub fn plain(put: &mut dyn FnMut(String)) {
     listed(PLAIN, put);
@@ -17,6 +18,16 @@ pub fn strict(put: &mut dyn FnMut(String)) {
 
 pub fn outside(put: &mut dyn FnMut(String)) {
     listed(OUTSIDE, put);
+}
+
+/// Requests with the answers that the documents give.
+pub fn documented() -> Vec<(String, String)> {
+    let mut pairs = Vec::new();
+    listed(DOCUMENTED, &mut |line| {
+        let (request, answer) = line.split_once(" = ").expect("a request and its answer");
+        pairs.push((request.to_string(), answer.to_string()));
+    });
+    pairs
 }
 
 /// The lines of a list, comments and empty lines apart.

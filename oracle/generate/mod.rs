@@ -6,6 +6,7 @@ mod random;
 mod short;
 mod varied;
 
+pub use fixed::documented;
 use random::Random;
 use std::io::{self, Write};
 use varied::Varied;
@@ -31,13 +32,13 @@ impl<W: Write> Lines<'_, W> {
 }
 
 /// The fixed requests, then the short ones, then random ones until there are `size`. Where the short ones would be
-/// more than half of what is left, only every second, third .. of them is taken.
+/// more than half of what is left, only every third, fifth .. of them is taken; an odd step, since kinds take turns.
 pub fn plain(seed: u64, size: usize, out: &mut impl Write) -> io::Result<()> {
     let mut lines = Lines { out, left: size, fault: Ok(()) };
     fixed::plain(&mut |line| lines.put(&line));
     let mut count = 0;
     short::all(&mut |_| count += 1);
-    let every = count / (lines.left / 2).max(1) + 1;
+    let every = (count / (lines.left / 2).max(1) + 1) | 1;
     let mut at = 0;
     short::all(&mut |line| {
         if at % every == 0 {
