@@ -1,5 +1,5 @@
 -- No second answer meets a promise: the law, and each definition that tells answers apart.
-use mathlib.Core.Path.{_≡_, sym, ap, _∙_}
+use mathlib.Core.Path.{sym, ap, _∙_}
 use Rattle.refusal.proofs.Distinct.{one-written, one-outcome}
 use Rattle.option_value.proofs.Distinct.{one-uint, one-u8, one-u16, one-u32, one-u64, one-text}
 use Rattle.header.proofs.Raw.{one-raw}
@@ -8,7 +8,6 @@ use Rattle.block_value.proofs.Distinct.{one-built, one-sized}
 use Rattle.editing.proofs.Distinct.{one-edited, one-observe}
 use Rattle.register.proofs.First.{one-checked}
 use Rattle.reading.specs.Reading.{Read, decoded}
-use Rattle.reading.specs.declared.Decoded.{Decoded}
 use Rattle.demands.specs.Determined.{TellsApart, OneAnswer, Told}
 
 pub one-answer : OneAnswer

@@ -1,16 +1,13 @@
 -- Demand 1, from the shapes of the promises.
-use Prim.Native.Nat.{ℕ, _≤_}
+use Prim.Native.Nat.{ℕ}
 use mathlib.Core.Path.{_≡_, refl, sym, ap, _∙_}
 use mathlib.Core.Logic.{_⊎_, inl, inr}
-use mathlib.Core.List.{List}
 use native.Mathlib.Omega.{arith}
 use lib.Dec.{lit≤}
-use Rattle.refusal.specs.Answer.{Answer, given, refused, written, outcome, after}
+use Rattle.refusal.specs.Answer.{Answer, given, refused, written, outcome}
 use Rattle.refusal.specs.Number.{numberOf}
 use Rattle.refusal.specs.declared.Refusal.{Refusal}
 use Rattle.refusal.specs.declared.Refusal.the-variants.{InvalidHeader, InvalidTokenLength, InvalidOptionDelta, InvalidOptionLength, InvalidPacketLength, TooManyOptions, WrongVersion, EmptyCarries, MarkerAlone, TooLong, BadRecord, NoRoom, BadUint, BadBlockSize, BadText, BadOption, BlockNumber, HeaderNotWritten}
-use Rattle.refusal.specs.declared.Written.{Written}
-use Rattle.refusal.specs.declared.Written.the-variants.{Refused}
 use Rattle.refusal.specs.declared.Outcome.{Outcome}
 use Rattle.refusal.specs.declared.Outcome.the-variants.{Done, Refused as Not}
 use Rattle.packet.specs.Packet.{newPacket}
@@ -18,9 +15,8 @@ use Rattle.packet.specs.declared.Packet.{Packet}
 use Rattle.reading.specs.Reading.{Read, decoded, readOf}
 use Rattle.reading.specs.declared.Decoded.{Decoded}
 use Rattle.editing.specs.Edit.{Edit, edited, kept}
-use Rattle.editing.specs.Setters.{stored}
 use Rattle.editing.specs.declared.Edited.{Edited}
-use Rattle.demands.specs.Refusals.{Numbered, Writes, OutputKept, NoPacketRead, PacketKept, StoreKept}
+use Rattle.demands.specs.Refusals.{Numbered, OutputKept, NoPacketRead, PacketKept, StoreKept}
 
 pub numbered : Numbered
 numbered InvalidHeader = (lit≤ tt, lit≤ tt)

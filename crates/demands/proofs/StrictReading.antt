@@ -17,7 +17,7 @@ use Rattle.reading.specs.declared.Decoded.{Decoded}
 use Rattle.reading.proofs.Within.{on-given}
 use Rattle.reading.proofs.Accept.{accepted}
 use Rattle.reading.proofs.Complete.{reads-layout}
-use Rattle.demands.specs.StrictReading.{FromBytesStrict, IsLayoutOf, StrictReading}
+use Rattle.demands.specs.StrictReading.{FromBytesStrict, IsLayoutOf, ReadsStrictly}
 
 -- An answer that is Done comes of an accepted datagram, with its packet.
 pub done : (d : Decoded) (a : Answer Packet) → decoded d ≡ readOf a → d .outcome ≡ Done → a ≡ given (d .packet)
@@ -43,7 +43,7 @@ means s b d promise h =
     let a = on-given (λ (p : Packet). WellFormed (meaning s p) × (layout (meaning s p) ≡ s)) (reading true s) (d .packet) (accepted s b) (done d (reading true s) promise h) in
     record { well-formed = a .0; bytes = a .1 }
 
-pub strict-reading : (s : List ℕ) → Bytes s → length s ≤ 70000 → (d : Decoded) → FromBytesStrict s d → StrictReading s d
+pub strict-reading : ReadsStrictly
 strict-reading s b short d promise =
     record {
       accepts = (λ h. (meaning s (d .packet), means s b d promise h), λ l. found s short d promise (l .0) (l .1) .0);

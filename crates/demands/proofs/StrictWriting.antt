@@ -16,7 +16,7 @@ use Rattle.packet.specs.declared.Packet.{Packet}
 use Rattle.writing.specs.Writing.{writing, bytesWritten}
 use Rattle.writing.specs.declared.Limit.{Limit}
 use Rattle.writing.proofs.Strict.{Writable, strict-writes, strict-written}
-use Rattle.demands.specs.StrictWriting.{ToBytesStrict, Sound, Enough, Wrote, StrictWriting}
+use Rattle.demands.specs.StrictWriting.{ToBytesStrict, Sound, Enough, Wrote, StrictWriting, WritesStrictly}
 
 module _ (limit : Limit) (p : Packet) (shaped : Shaped p) (s : List ℕ) (b : Bytes s) (old : List ℕ) (r : Written) (new : List ℕ) (promise : ToBytesStrict limit p s old r new) where
   -- What is writable is written, as the layout of its meaning.
@@ -31,8 +31,8 @@ module _ (limit : Limit) (p : Packet) (shaped : Shaped p) (s : List ℕ) (b : By
   writable : WellFormed (meaning s p) → Sound s p → Enough limit (length old) (layout (meaning s p)) → Writable limit (length old) s p
   writable w k e = record { store = k .store; records = k .records; wellformed = w; within = e .within; fits = e .fits }
 
-  pub strict-writing : StrictWriting limit p s old r new
-  strict-writing =
+  strictly : StrictWriting limit p s old r new
+  strictly =
       record {
         writes = λ m w means k e.
             subst (λ (n : Message). Wrote (layout n) old r new) means
@@ -44,3 +44,6 @@ module _ (limit : Limit) (p : Packet) (shaped : Shaped p) (s : List ℕ) (b : By
           λ h. (length (layout (meaning s p)), written-so (writable (h .0) (h .1) (h .2)) .answer),
         );
       }
+
+pub strict-writing : WritesStrictly
+strict-writing = strictly

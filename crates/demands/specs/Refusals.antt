@@ -3,12 +3,11 @@ use Prim.Native.Nat.{ℕ, _≤_}
 use mathlib.Core.Path.{_≡_}
 use mathlib.Core.Logic.{_⊎_}
 use mathlib.Core.List.{List}
-use Rattle.refusal.specs.Answer.{Answer, given, refused, written, after}
+use Rattle.refusal.specs.Answer.{Answer, refused, written, after}
 use Rattle.refusal.specs.Number.{numberOf}
 use Rattle.refusal.specs.declared.Refusal.{Refusal}
 use Rattle.refusal.specs.declared.Written.{Written}
 use Rattle.refusal.specs.declared.Written.the-variants.{Refused}
-use Rattle.refusal.specs.declared.Outcome.{Outcome}
 use Rattle.refusal.specs.declared.Outcome.the-variants.{Done, Refused as Not}
 use Rattle.packet.specs.Packet.{newPacket}
 use Rattle.packet.specs.declared.Packet.{Packet}

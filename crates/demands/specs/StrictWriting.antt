@@ -7,10 +7,12 @@ use mathlib.Core.Bool.{true, false}
 use mathlib.Core.List.{List, _++_}
 use lib.ListN.{length, drop}
 use Rattle.rfc.specs.Message.{Message, WellFormed, layout}
+use Rattle.rfc.specs.Part.{Bytes}
 use Rattle.refusal.specs.declared.Written.{Written}
 use Rattle.refusal.specs.declared.Written.the-variants.{Length}
 use Rattle.packet.specs.Judge.{badPacket}
 use Rattle.packet.specs.Meaning.{meaning}
+use Rattle.packet.specs.Shape.{Shaped}
 use Rattle.packet.specs.declared.Packet.{Packet}
 use Rattle.writing.specs.Writing.{writing, bytesWritten, over}
 use Rattle.writing.specs.declared.Limit.{Limit}
@@ -40,3 +42,10 @@ pub record StrictWriting (limit : Limit) (p : Packet) (s old : List ℕ) (r : Wr
   pub writes : (m : Message) → WellFormed m → meaning s p ≡ m → Sound s p → Enough limit (length old) (layout m) → Wrote (layout m) old r new
   -- It is written exactly when its meaning is well-formed, nothing is refused 10 or 11, and limit and room suffice.
   pub exactly : ((n : ℕ) × (r ≡ Length n)) ↔ (WellFormed (meaning s p) × Sound s p × Enough limit (length old) (layout (meaning s p)))
+
+-- So it is of every packet that a function can be handed, of every store, limit and output, and of every answer that meets the
+-- promise.
+abbrev pub WritesStrictly : Type 0
+WritesStrictly =
+    (limit : Limit) (p : Packet) → Shaped p → (s : List ℕ) → Bytes s → (old : List ℕ) (r : Written) (new : List ℕ)
+    → ToBytesStrict limit p s old r new → StrictWriting limit p s old r new

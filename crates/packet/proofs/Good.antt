@@ -7,7 +7,7 @@ use native.Mathlib.Omega.{arith}
 use lib.ListN.{length}
 use lib.Dec.{ltb}
 use borrow.Author.Tests.{le-ltb, ltb-false}
-use Rattle.rfc.specs.Choice.{pick, either}
+use Rattle.rfc.specs.Choice.{pick}
 use Rattle.rfc.proofs.Choice.{on-lt, neither}
 use Rattle.packet.specs.Packet.{recordsOf}
 use Rattle.packet.specs.Judge.{outside, falling, misordered, badValue, badValues, badRanges, badPacket, extensionSize, optionSize, optionsSize, judged}

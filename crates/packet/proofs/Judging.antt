@@ -1,7 +1,7 @@
 -- The walk over the records that judges and counts them: what is known before each record, and how a turn goes.
 use Prim.Native.Nat.{ℕ, _+_, _*_, _<_, _≤_}
 use mathlib.Core.Path.{_≡_, refl, sym, ap, _∙_}
-use mathlib.Core.Bool.{Bool, true, false}
+use mathlib.Core.Bool.{true, false}
 use mathlib.Core.List.{List, [], _∷_}
 use native.Mathlib.Nat.{add-zero, zero-add, add-assoc}
 use native.Mathlib.Omega.{arith}
@@ -9,7 +9,6 @@ use lib.ListN.{drop}
 use lib.Dec.{ltb}
 use borrow.Author.Tests.{lt-ltb, le-ltb}
 use Rattle.rfc.proofs.Choice.{either-right}
-use Rattle.rfc.specs.Choice.{either}
 use Rattle.packet.specs.Packet.{recordsOf}
 use Rattle.packet.specs.Judge.{falling, misordered, badValue, badValues, badRanges, badPacket, optionSize, optionsSize, judged}
 use Rattle.packet.specs.declared.Packet.{Packet}

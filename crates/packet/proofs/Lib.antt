@@ -1,3 +1,4 @@
 pub mod Records
 pub mod Good
 pub mod Judging
+pub mod Held

@@ -1,4 +1,5 @@
--- What the types say of every packet that a function is handed: a theorem over packets asks it, and a caller has it.
+-- What the types say of every packet that a function is handed: a theorem over packets asks it, and `proofs/Held.antt` has it of
+-- every packet at a function's entry.
 use Prim.Native.Nat.{_<_}
 use mathlib.Core.Path.{_≡_}
 use mathlib.Core.List.{List, [], _∷_}

@@ -1,14 +1,10 @@
 -- `answer_all` is safe and ends: each turn takes from `left`, or sets it to 0.
-use Prim.Native.Nat.{ℕ, _+_, _*_, _/_, _-_, _<_, _≤_}
-use mathlib.Core.Path.{_≡_, refl, sym, _∙_, ap}
+use mathlib.Core.Path.{_≡_}
 use native.Mathlib.Omega.{arith}
 use lib.ListN.{length}
 use borrow.Author.Needs.{needs}
 use Rattle.answers.proofs.answer_all.Statement.{statement}
 use Rattle.answers.proofs.answer_all.Tie as tie
-use Rattle.answers.proofs.answer_all.Reads as reads
-use Rattle.answers.proofs.answer_all.Lts as lts
-use Rattle.answers.proofs.take_piece.Reads as take-piece-reads
 
 abbrev Inv-loop : tie.InvT-loop
 Inv-loop input₀ store₀ room₀ out₀ kept₀ left₀ input store room out kept left = (length input ≡ length input₀) × (length store ≡ length store₀) × (length room ≡ length room₀) × (length out ≡ length out₀)
@@ -16,51 +12,39 @@ Inv-loop input₀ store₀ room₀ out₀ kept₀ left₀ input store room out k
 abbrev μ-loop : tie.MeasureT-loop
 μ-loop input₀ store₀ room₀ out₀ kept₀ left₀ input store room out kept left = left
 
--- src/main.rt:46:5
 loop-holds : tie.Need-loop-holds Inv-loop μ-loop
 loop-holds c = omega arith
 
--- src/main.rt:48:13
 take-piece-requires : tie.Need-take-piece-requires Inv-loop μ-loop
 take-piece-requires c κs = tt
 
--- src/main.rt:49:20
 sub-left : tie.Need-sub-left Inv-loop μ-loop
 sub-left c = omega arith
 
--- src/main.rt:46:5
 loop-less : tie.Need-loop-less Inv-loop μ-loop
 loop-less c = omega arith
 
--- src/main.rt:46:5
 loop-again : tie.Need-loop-again Inv-loop μ-loop
 loop-again c = search needs
 
--- src/main.rt:46:5
 loop-less-2 : tie.Need-loop-less-2 Inv-loop μ-loop
 loop-less-2 c = omega arith
 
--- src/main.rt:46:5
 loop-again-2 : tie.Need-loop-again-2 Inv-loop μ-loop
 loop-again-2 c = search needs
 
--- src/main.rt:38:1
 same-length : tie.Need-same-length Inv-loop μ-loop
 same-length c = search needs
 
--- src/main.rt:38:1
 same-length-2 : tie.Need-same-length-2 Inv-loop μ-loop
 same-length-2 c = search needs
 
--- src/main.rt:38:1
 same-length-3 : tie.Need-same-length-3 Inv-loop μ-loop
 same-length-3 c = search needs
 
--- src/main.rt:38:1
 same-length-4 : tie.Need-same-length-4 Inv-loop μ-loop
 same-length-4 c = search needs
 
--- src/main.rt:38:1
 returns : tie.Need-returns Inv-loop μ-loop
 returns c = tt
 

@@ -1,16 +1,11 @@
 -- `answer_lines` is safe and ends: each turn counts a line, of which a piece has no more than bytes.
-use Prim.Native.Nat.{ℕ, _+_, _*_, _/_, _-_, _<_, _≤_}
-use mathlib.Core.Path.{_≡_, refl, sym, _∙_, ap}
+use Prim.Native.Nat.{_-_}
+use mathlib.Core.Path.{_≡_}
 use native.Mathlib.Omega.{arith}
-use lib.ListN.{length, length-set, length-map}
+use lib.ListN.{length}
 use borrow.Author.Needs.{needs}
 use Rattle.answers.proofs.answer_lines.Statement.{statement}
 use Rattle.answers.proofs.answer_lines.Tie as tie
-use Rattle.answers.proofs.answer_lines.Reads as reads
-use Rattle.answers.proofs.answer_lines.Lts as lts
-use Rattle.answers.proofs.answer_line.Reads as answer-line-reads
-use Rattle.answers.proofs.line_end.Reads as line-end-reads
-use Rattle.answers.proofs.words.part.Reads as part-reads
 
 abbrev Inv-loop : tie.InvT-loop
 Inv-loop piece store₀ room₀ out₀ place₀ cut₀ start₀ i₀ store room out place cut start i = (length store ≡ length store₀) × (length room ≡ length room₀) × (length out ≡ length out₀)
@@ -18,63 +13,48 @@ Inv-loop piece store₀ room₀ out₀ place₀ cut₀ start₀ i₀ store room 
 abbrev μ-loop : tie.MeasureT-loop
 μ-loop piece store₀ room₀ out₀ place₀ cut₀ start₀ i₀ store room out place cut start i = length piece - i
 
--- src/main.rt:105:5
 loop-holds : tie.Need-loop-holds Inv-loop μ-loop
 loop-holds c = omega arith
 
--- src/main.rt:106:13
 line-end-requires : tie.Need-line-end-requires Inv-loop μ-loop
 line-end-requires c κs = tt
 
--- src/main.rt:108:13
 same-length : tie.Need-same-length Inv-loop μ-loop
 same-length c = search needs
 
--- src/main.rt:108:13
 same-length-2 : tie.Need-same-length-2 Inv-loop μ-loop
 same-length-2 c = search needs
 
--- src/main.rt:108:13
 same-length-3 : tie.Need-same-length-3 Inv-loop μ-loop
 same-length-3 c = search needs
 
--- src/main.rt:108:13
 returns : tie.Need-returns Inv-loop μ-loop
 returns c = tt
 
--- src/main.rt:115:34
 part-requires : tie.Need-part-requires Inv-loop μ-loop
 part-requires c κs = tt
 
--- src/main.rt:115:9
 answer-line-requires : tie.Need-answer-line-requires Inv-loop μ-loop
 answer-line-requires c κs = tt
 
--- src/main.rt:118:13
 add-i : tie.Need-add-i Inv-loop μ-loop
 add-i c = omega arith
 
--- src/main.rt:105:5
 loop-less : tie.Need-loop-less Inv-loop μ-loop
 loop-less c = omega arith
 
--- src/main.rt:105:5
 loop-again : tie.Need-loop-again Inv-loop μ-loop
 loop-again c = search needs
 
--- src/main.rt:94:1
 same-length-4 : tie.Need-same-length-4 Inv-loop μ-loop
 same-length-4 c = search needs
 
--- src/main.rt:94:1
 same-length-5 : tie.Need-same-length-5 Inv-loop μ-loop
 same-length-5 c = search needs
 
--- src/main.rt:94:1
 same-length-6 : tie.Need-same-length-6 Inv-loop μ-loop
 same-length-6 c = search needs
 
--- src/main.rt:94:1
 returns-2 : tie.Need-returns-2 Inv-loop μ-loop
 returns-2 c = tt
 

@@ -1,13 +1,11 @@
 -- `moved_to_front` is safe and ends: each turn moves a byte.
-use Prim.Native.Nat.{ℕ, _+_, _*_, _/_, _-_, _<_, _≤_}
-use mathlib.Core.Path.{_≡_, refl, sym, _∙_, ap}
+use Prim.Native.Nat.{_-_}
+use mathlib.Core.Path.{_≡_}
 use native.Mathlib.Omega.{arith}
-use lib.ListN.{length, length-set, length-map}
+use lib.ListN.{length}
 use borrow.Author.Needs.{needs}
 use Rattle.answers.proofs.moved_to_front.Statement.{statement}
 use Rattle.answers.proofs.moved_to_front.Tie as tie
-use Rattle.answers.proofs.moved_to_front.Reads as reads
-use Rattle.answers.proofs.moved_to_front.Lts as lts
 
 abbrev Inv-loop : tie.InvT-loop
 Inv-loop input₀ start end count i₀ input i = length input ≡ length input₀
@@ -15,47 +13,36 @@ Inv-loop input₀ start end count i₀ input i = length input ≡ length input�
 abbrev μ-loop : tie.MeasureT-loop
 μ-loop input₀ start end count i₀ input i = count - i
 
--- src/main.rt:143:9
 returns : tie.Need-returns Inv-loop μ-loop
 returns c = tt
 
--- src/main.rt:146:9
 returns-2 : tie.Need-returns-2 Inv-loop μ-loop
 returns-2 c = tt
 
--- src/main.rt:150:5
 loop-holds : tie.Need-loop-holds Inv-loop μ-loop
 loop-holds c = omega arith
 
--- src/main.rt:151:26
 add-input : tie.Need-add-input Inv-loop μ-loop
 add-input c = omega arith
 
--- src/main.rt:151:20
 slice-read-input : tie.Need-slice-read-input Inv-loop μ-loop
 slice-read-input c = omega arith
 
--- src/main.rt:151:9
 slice-write-input : tie.Need-slice-write-input Inv-loop μ-loop
 slice-write-input c = omega arith
 
--- src/main.rt:152:13
 add-i : tie.Need-add-i Inv-loop μ-loop
 add-i c = omega arith
 
--- src/main.rt:150:5
 loop-less : tie.Need-loop-less Inv-loop μ-loop
 loop-less c = omega arith
 
--- src/main.rt:150:5
 loop-again : tie.Need-loop-again Inv-loop μ-loop
 loop-again c = search needs
 
--- src/main.rt:141:1
 same-length : tie.Need-same-length Inv-loop μ-loop
 same-length c = search needs
 
--- src/main.rt:141:1
 returns-3 : tie.Need-returns-3 Inv-loop μ-loop
 returns-3 c = tt
 

@@ -1,10 +1,10 @@
 -- `add_option` judges the records while it copies them: what is copied, and the record still to be placed put among those that are
 -- left, are the list that the definition makes.
 use Prim.Native.Nat.{_+_, _-_, _≤_}
-use mathlib.Core.Path.{_≡_, sym, _∙_, ap}
+use mathlib.Core.Path.{_≡_, _∙_, ap}
 use mathlib.Core.List.{[], _∷_}
 use native.Mathlib.Omega.{arith}
-use lib.ListN.{length, drop, getD, length-map, drop-of-length-le}
+use lib.ListN.{length, drop, getD, drop-of-length-le}
 use borrow.Author.Needs.{needs}
 use Rattle.packet.specs.Packet.{none, recordsOf}
 use Rattle.packet.proofs.Records.{left}
@@ -13,6 +13,7 @@ use Rattle.editing.proofs.Records.{inserted-moves, inserted-after, leng
 use Rattle.editing.proofs.Walk as Walk
 use Rattle.editing.proofs.add_option.Statement.{statement}
 use Rattle.editing.proofs.add_option.Tie as tie
+use Rattle.packet.proofs.Held.{full}
 
 abbrev Inv-loop : tie.InvT-loop
 Inv-loop number start len packet count records₀ last₀ before₀ i₀ records last before i = Walk.Walk (recordsOf packet) (inserted number (record { number = number; spare = 0; start = start; len = len } ∷ []) (recordsOf packet)) (inserted number (last ∷ []) (drop i (recordsOf packet))) records i i before
@@ -24,7 +25,7 @@ abbrev μ-loop : tie.MeasureT-loop
 used : (c : tie.Else1 Inv-loop μ-loop) → length (recordsOf (c .before .args .t1)) ≡ c .before .args .t1 .count
 used c =
     let p = c .before .args .t1 in
-    Walk.in-use p (sym (length-map (p .options) _) ∙ c .before .good .0 .1 .1 .1 .1 .1 .0 .1 .0 .1) (c .if1 .left)
+    Walk.in-use p (full p (c .before .good .0)) (c .if1 .left)
 
 -- The records that are left begin with the one at hand.
 here : (c : tie.In-loop Inv-loop μ-loop) → drop (c .before .loop .i) (recordsOf (c .before .before .before .args .t1)) ≡ getD (c .before .before .before .args .t1 .options) (c .before .loop .i) none ∷ drop (c .before .loop .i + 1) (recordsOf (c .before .before .before .args .t1))

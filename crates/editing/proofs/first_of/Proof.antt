@@ -3,13 +3,14 @@ use Prim.Native.Nat.{_+_, _-_, _≤_}
 use mathlib.Core.Path.{_≡_, refl, sym, _∙_, ap}
 use mathlib.Core.List.{_∷_}
 use native.Mathlib.Omega.{arith}
-use lib.ListN.{length, drop, getD, length-map, length-take, drop-of-length-le}
+use lib.ListN.{length, drop, getD, length-take, drop-of-length-le}
 use borrow.Author.Needs.{needs}
 use Rattle.packet.specs.Packet.{none, recordsOf, ofNumber}
 use Rattle.packet.proofs.Records.{left, first-of, passes}
 use Rattle.editing.specs.Private.{firstIn}
 use Rattle.editing.proofs.first_of.Statement.{statement}
 use Rattle.editing.proofs.first_of.Tie as tie
+use Rattle.packet.proofs.Held.{full}
 
 abbrev Inv-loop : tie.InvT-loop
 Inv-loop number packet count i₀ i = ((i ≤ count) × (count ≤ 128)) × ((count ≡ length (recordsOf packet)) × (ofNumber number (recordsOf packet) ≡ ofNumber number (drop i (recordsOf packet))))
@@ -29,7 +30,7 @@ option-count-requires c κs = search needs
 loop-holds : tie.Need-loop-holds Inv-loop μ-loop
 loop-holds c =
     let p = c .before .args .t1 in
-    let n : length (p .options) ≡ 128 = sym (length-map (p .options) _) ∙ c .before .good .0 .1 .1 .1 .1 .1 .0 .1 .0 .1 in
+    let n : length (p .options) ≡ 128 = full p (c .before .good .0) in
     (omega (arith, c .option-count .ensures, length-take (p .count) (p .options)), (c .option-count .ensures, refl))
 
 mul-record : tie.Need-mul-record Inv-loop μ-loop

@@ -17,6 +17,7 @@ use Rattle.editing.proofs.Places as Places
 use Rattle.editing.proofs.Walk as Walk
 use Rattle.editing.proofs.set_option.Statement.{statement}
 use Rattle.editing.proofs.set_option.Tie as tie
+use Rattle.packet.proofs.Held.{full}
 
 abbrev Inv-loop : tie.InvT-loop
 Inv-loop number ranges packet low high new count records₀ i₀ records i = Splicing packet low high count (spliced low high (map (recordOf number) (rangesIn ranges)) (recordsOf packet)) records i
@@ -28,11 +29,11 @@ abbrev μ-loop : tie.MeasureT-loop
 span : (c : tie.After-low Inv-loop μ-loop) → Spanned (c .before .before .before .before .args .t1) (c .before .before .before .before .args .number) (c .low .given .0 .0) (c .low .given .0 .1 .0)
 span c = Places.from-between (c .before .before .before .before .args .t1) (c .before .before .before .before .args .number) (c .low .given .0 .0) (c .low .given .0 .1 .0) (sym (c .low .given .1) ∙ c .before .before .span-of .ensures)
 
-full : (c : tie.Start Inv-loop μ-loop) → length (c .args .t1 .options) ≡ 128
-full c = sym (length-map (c .args .t1 .options) _) ∙ c .good .0 .1 .1 .1 .1 .1 .0 .1 .0 .1
+array : (c : tie.Start Inv-loop μ-loop) → length (c .args .t1 .options) ≡ 128
+array c = full (c .args .t1) (c .good .0)
 
 sizes : (c : tie.After-low Inv-loop μ-loop) → Splice.Sized (c .before .before .before .before .args .t1) (c .low .given .0 .0) (c .low .given .0 .1 .0)
-sizes c = Splice.sized _ _ _ _ (full (c .before .before .before .before)) (span c)
+sizes c = Splice.sized _ _ _ _ (array (c .before .before .before .before)) (span c)
 
 -- The new records, and what they make of the old ones.
 abbrev new : (c : tie.After-low Inv-loop μ-loop) → List OptionRecord
@@ -87,7 +88,7 @@ unfolding optionSet
 returns-2 c =
     let k = c .before .before .before in
     let a = k .before .before .before .before .args in
-    let e = Splice.set-spliced (a .t1) (a .number) (k .low .given .0 .0) (k .low .given .0 .1 .0) (full (k .before .before .before .before)) (span k) (new k) in
+    let e = Splice.set-spliced (a .t1) (a .number) (k .low .given .0 .0) (k .low .given .0 .1 .0) (array (k .before .before .before .before)) (span k) (new k) in
     c .refused2 .ensures
     ∙ Walk.full (a .t1) (replaced (a .number) (rangesIn (now (a .ranges))) (recordsOf (a .t1))) (span k .sound)
     (omega (arith, ap length e, long k, c .before .if1 .taken))
@@ -229,7 +230,7 @@ returns-3 c =
     let l = c .before .before in
     let k = l .before .before .before in
     let a = k .before .before .before .before .args in
-    let e = Splice.set-spliced (a .t1) (a .number) (k .low .given .0 .0) (k .low .given .0 .1 .0) (full (k .before .before .before .before)) (span k) (new k) in
+    let e = Splice.set-spliced (a .t1) (a .number) (k .low .given .0 .0) (k .low .given .0 .1 .0) (array (k .before .before .before .before)) (span k) (new k) in
     c .done .ensures
     ∙ Walk.made-roomy (a .t1) (replaced (a .number) (rangesIn (now (a .ranges))) (recordsOf (a .t1))) (span k .sound) _ _
     (omega (arith, ap length e, long k, l .before .if1 .left)) (rw e (Splice.all-spliced _ _ _ _ _ _ _ (l .loop .inv) (c .before .loop-test .left)))

@@ -1,9 +1,9 @@
 -- `span_of` judges the records while it counts them: what is counted and what is left to count are all of lower numbers.
 use Prim.Native.Nat.{_+_, _-_, _≤_}
-use mathlib.Core.Path.{_≡_, sym, _∙_}
+use mathlib.Core.Path.{_≡_}
 use mathlib.Core.List.{_∷_}
 use native.Mathlib.Omega.{arith}
-use lib.ListN.{length, drop, getD, length-map}
+use lib.ListN.{length, drop, getD}
 use borrow.Author.Needs.{needs}
 use Rattle.packet.specs.Packet.{none, recordsOf}
 use Rattle.packet.proofs.Records.{left}
@@ -12,6 +12,7 @@ use Rattle.editing.proofs.Places as Places
 use Rattle.editing.proofs.Walk as Walk
 use Rattle.editing.proofs.span_of.Statement.{statement}
 use Rattle.editing.proofs.span_of.Tie as tie
+use Rattle.packet.proofs.Held.{full}
 
 abbrev Inv-loop : tie.InvT-loop
 Inv-loop number packet count low₀ high₀ before₀ i₀ low high before i = Spanning (recordsOf packet) number low high i before
@@ -23,7 +24,7 @@ abbrev μ-loop : tie.MeasureT-loop
 used : (c : tie.Else1 Inv-loop μ-loop) → length (recordsOf (c .before .args .t1)) ≡ c .before .args .t1 .count
 used c =
     let p = c .before .args .t1 in
-    Walk.in-use p (sym (length-map (p .options) _) ∙ c .before .good .0 .1 .1 .1 .1 .1 .0 .1 .0 .1) (c .if1 .left)
+    Walk.in-use p (full p (c .before .good .0)) (c .if1 .left)
 
 -- The records that are left begin with the one at hand.
 here : (c : tie.In-loop Inv-loop μ-loop) → drop (c .before .loop .i) (recordsOf (c .before .before .before .args .t1)) ≡ getD (c .before .before .before .args .t1 .options) (c .before .loop .i) none ∷ drop (c .before .loop .i + 1) (recordsOf (c .before .before .before .args .t1))

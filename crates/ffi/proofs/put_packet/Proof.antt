@@ -1,18 +1,19 @@
 -- `put_packet`: head and records, where there is room for both.
 use Prim.Native.Nat.{_≤_}
-use mathlib.Core.Path.{_≡_, sym, _∙_}
+use mathlib.Core.Path.{_≡_}
 use native.Mathlib.Omega.{arith}
-use lib.ListN.{length, length-map, length-take}
+use lib.ListN.{length, length-take}
 use Rattle.ffi.proofs.Flat.{no-room, puts}
 use borrow.Author.Needs.{needs}
 use Rattle.ffi.proofs.put_packet.Statement.{statement}
 use Rattle.ffi.proofs.put_packet.Tie as tie
+use Rattle.packet.proofs.Held.{full}
 
 -- At most 128 records are in use.
 few : (c : tie.After-option-count) → c .option-count .result ≤ 128
 few c =
     let p = c .before .before .args .packet in
-    let n : length (p .options) ≡ 128 = sym (length-map (p .options) _) ∙ c .before .before .good .0 .1 .1 .1 .1 .1 .0 .1 .0 .1 in
+    let n : length (p .options) ≡ 128 = full p (c .before .before .good .0) in
     omega (arith, c .option-count .ensures, length-take (p .count) (p .options))
 
 option-count-requires : tie.Need-option-count-requires

@@ -1,13 +1,14 @@
 -- `put_records`: once the records that are left are put, all are.
 use Prim.Native.Nat.{_-_, _≤_}
-use mathlib.Core.Path.{_≡_, sym, _∙_}
+use mathlib.Core.Path.{_≡_}
 use native.Mathlib.Omega.{arith}
-use lib.ListN.{length, length-map, length-take, length-set}
+use lib.ListN.{length, length-take, length-set}
 use Rattle.packet.specs.Packet.{recordsOf}
 use Rattle.packet.proofs.Records.{left, none-left}
 use Rattle.ffi.proofs.Flat.{Putting, start, turn, all}
 use Rattle.ffi.proofs.put_records.Statement.{statement}
 use Rattle.ffi.proofs.put_records.Tie as tie
+use Rattle.packet.proofs.Held.{full}
 
 abbrev Inv-loop : tie.InvT-loop
 Inv-loop out₀ count packet next₀ i₀ out next i = ((i ≤ count) × (count ≤ 128)) × ((count ≡ length (recordsOf packet)) × Putting out₀ (recordsOf packet) out next i)
@@ -18,7 +19,7 @@ abbrev μ-loop : tie.MeasureT-loop
 loop-holds : tie.Need-loop-holds Inv-loop μ-loop
 loop-holds c =
     let p = c .args .t2 in
-    let n : length (p .options) ≡ 128 = sym (length-map (p .options) _) ∙ c .good .1 .0 .1 .1 .1 .1 .1 .0 .1 .0 .1 in
+    let n : length (p .options) ≡ 128 = full p (c .good .1 .0) in
     ((omega arith, omega (arith, length-take (p .count) (p .options), c .pre .0)), (c .pre .0, start _ _))
 
 mul-record : tie.Need-mul-record Inv-loop μ-loop

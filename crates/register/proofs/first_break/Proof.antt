@@ -3,7 +3,7 @@ use Prim.Native.Nat.{_+_, _-_, _≤_}
 use mathlib.Core.Path.{_≡_, sym, _∙_}
 use mathlib.Core.List.{_∷_}
 use native.Mathlib.Omega.{arith}
-use lib.ListN.{length, drop, getD, length-map, length-take}
+use lib.ListN.{length, drop, getD, length-take}
 use lib.Dec.{ltb, eqb}
 use borrow.Author.Needs.{needs}
 use Rattle.rfc.specs.Choice.{both}
@@ -13,6 +13,7 @@ use Rattle.register.specs.Register.{breaks}
 use Rattle.register.proofs.Walk.{Walk, start, turn, names, nothing-left}
 use Rattle.register.proofs.first_break.Statement.{statement}
 use Rattle.register.proofs.first_break.Tie as tie
+use Rattle.packet.proofs.Held.{full}
 
 abbrev Inv-loop : tie.InvT-loop
 Inv-loop packet count before₀ i₀ before i = ((i ≤ packet .count) × (packet .count ≤ 128) × (length (packet .options) ≡ 128)) × Walk (recordsOf packet) before i
@@ -32,7 +33,7 @@ verdict c = rw (sym (c .before .is-again .ensures)) (sym (c .breaks .ensures))
 
 loop-holds : tie.Need-loop-holds Inv-loop μ-loop
 loop-holds c =
-    let n : length (c .args .t1 .options) ≡ 128 = sym (length-map (c .args .t1 .options) _) ∙ c .good .0 .1 .1 .1 .1 .1 .0 .1 .0 .1 in
+    let n : length (c .args .t1 .options) ≡ 128 = full (c .args .t1) (c .good .0) in
     (omega arith, start (recordsOf (c .args .t1)) (c .pre .1))
 
 mul-option : tie.Need-mul-option Inv-loop μ-loop

@@ -1,9 +1,9 @@
 -- `put_options`: one option a turn, until none is left.
 use Prim.Native.Nat.{_+_, _-_, _≤_}
-use mathlib.Core.Path.{_≡_, sym, _∙_}
+use mathlib.Core.Path.{_≡_}
 use mathlib.Core.List.{_∷_}
 use native.Mathlib.Omega.{arith}
-use lib.ListN.{length, drop, getD, length-map, length-take}
+use lib.ListN.{length, drop, getD, length-take}
 use borrow.Author.Needs.{needs}
 use Rattle.packet.specs.Packet.{none, recordsOf}
 use Rattle.packet.proofs.Good.{good}
@@ -11,6 +11,7 @@ use Rattle.packet.proofs.Records.{left, none-left}
 use Rattle.writing.proofs.Options.{Putting, start, rises, short, room, turn, all}
 use Rattle.writing.proofs.put_options.Statement.{statement}
 use Rattle.writing.proofs.put_options.Tie as tie
+use Rattle.packet.proofs.Held.{full}
 
 abbrev Inv-loop : tie.InvT-loop
 Inv-loop out₀ at store packet count before₀ next₀ i₀ out before next i = ((i ≤ packet .count) × (packet .count ≤ 128) × (length (packet .options) ≡ 128)) × Putting store (recordsOf packet) out₀ at out before next i
@@ -29,7 +30,7 @@ loop-holds c =
     let st = c .before .before in
     let p = st .args .t3 in
     let g = good _ _ (st .pre .0) in
-    let n : length (p .options) ≡ 128 = sym (length-map (p .options) _) ∙ st .good .1 .1 .0 .1 .1 .1 .1 .1 .0 .1 .0 .1 in
+    let n : length (p .options) ≡ 128 = full p (st .good .1 .1 .0) in
     ((omega arith, g .count, n), start _ _ _ _ (st .pre .1) (g .ordered) (g .values))
 
 mul-record : tie.Need-mul-record Inv-loop μ-loop

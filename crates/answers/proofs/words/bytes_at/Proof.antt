@@ -1,17 +1,11 @@
 -- `bytes_at` is safe and ends: each turn takes two digits, and writes inside the store.
-use Prim.Native.Nat.{ℕ, _+_, _*_, _/_, _-_, _<_, _≤_}
-use mathlib.Core.Path.{_≡_, refl, sym, _∙_, ap}
+use Prim.Native.Nat.{_-_}
+use mathlib.Core.Path.{_≡_}
 use native.Mathlib.Omega.{arith}
-use lib.ListN.{length, length-set, length-map}
+use lib.ListN.{length}
 use borrow.Author.Needs.{needs}
 use Rattle.answers.proofs.words.bytes_at.Statement.{statement}
 use Rattle.answers.proofs.words.bytes_at.Tie as tie
-use Rattle.answers.proofs.words.bytes_at.Reads as reads
-use Rattle.answers.proofs.words.bytes_at.Lts as lts
-use Rattle.answers.proofs.words.after.Reads as after-reads
-use Rattle.answers.proofs.words.byte_at.Reads as byte-at-reads
-use Rattle.answers.proofs.words.digit.Reads as digit-reads
-use Rattle.answers.proofs.words.some.Reads as some-reads
 
 abbrev Inv-loop : tie.InvT-loop
 Inv-loop line at before store₀ place start end₀ i₀ store end i = length store ≡ length store₀
@@ -19,119 +13,90 @@ Inv-loop line at before store₀ place start end₀ i₀ store end i = length st
 abbrev μ-loop : tie.MeasureT-loop
 μ-loop line at before store₀ place start end₀ i₀ store end i = length line - i
 
--- src/words.rt:121:9
 after-requires : tie.Need-after-requires Inv-loop μ-loop
 after-requires c κs = tt
 
--- src/words.rt:122:8
 byte-at-requires : tie.Need-byte-at-requires Inv-loop μ-loop
 byte-at-requires c κs = tt
 
--- src/words.rt:125:19
 after-requires-2 : tie.Need-after-requires-2 Inv-loop μ-loop
 after-requires-2 c κs = tt
 
--- src/words.rt:123:9
 returns : tie.Need-returns Inv-loop μ-loop
 returns c = tt
 
--- src/words.rt:130:5
 loop-holds : tie.Need-loop-holds Inv-loop μ-loop
 loop-holds c = omega arith
 
--- src/words.rt:131:26
 shared-slice-read-digit : tie.Need-shared-slice-read-digit Inv-loop μ-loop
 shared-slice-read-digit c = omega arith
 
--- src/words.rt:131:13
 digit-requires : tie.Need-digit-requires Inv-loop μ-loop
 digit-requires c κs = tt
 
--- src/words.rt:135:23
 some-requires : tie.Need-some-requires Inv-loop μ-loop
 some-requires c κs = tt
 
--- src/words.rt:133:13
 same-length : tie.Need-same-length Inv-loop μ-loop
 same-length c = search needs
 
--- src/words.rt:133:13
 returns-2 : tie.Need-returns-2 Inv-loop μ-loop
 returns-2 c = tt
 
--- src/words.rt:138:12
 sub-if3 : tie.Need-sub-if3 Inv-loop μ-loop
 sub-if3 c = omega arith
 
--- src/words.rt:139:13
 same-length-2 : tie.Need-same-length-2 Inv-loop μ-loop
 same-length-2 c = search needs
 
--- src/words.rt:139:13
 returns-3 : tie.Need-returns-3 Inv-loop μ-loop
 returns-3 c = tt
 
--- src/words.rt:141:30
 add-digit : tie.Need-add-digit Inv-loop μ-loop
 add-digit c = omega arith
 
--- src/words.rt:141:25
 shared-slice-read-digit-2 : tie.Need-shared-slice-read-digit-2 Inv-loop μ-loop
 shared-slice-read-digit-2 c = omega arith
 
--- src/words.rt:141:13
 digit-requires-2 : tie.Need-digit-requires-2 Inv-loop μ-loop
 digit-requires-2 c κs = tt
 
--- src/words.rt:143:13
 same-length-3 : tie.Need-same-length-3 Inv-loop μ-loop
 same-length-3 c = search needs
 
--- src/words.rt:143:13
 returns-4 : tie.Need-returns-4 Inv-loop μ-loop
 returns-4 c = tt
 
--- src/words.rt:146:13
 same-length-4 : tie.Need-same-length-4 Inv-loop μ-loop
 same-length-4 c = search needs
 
--- src/words.rt:146:13
 returns-5 : tie.Need-returns-5 Inv-loop μ-loop
 returns-5 c = tt
 
--- src/words.rt:148:22
 mul-store : tie.Need-mul-store Inv-loop μ-loop
 mul-store c = omega arith
 
--- src/words.rt:148:22
 add-store : tie.Need-add-store Inv-loop μ-loop
 add-store c = omega arith
 
--- src/words.rt:148:9
 slice-write-store : tie.Need-slice-write-store Inv-loop μ-loop
 slice-write-store c = omega arith
 
--- src/words.rt:149:15
 add-end : tie.Need-add-end Inv-loop μ-loop
 add-end c = omega arith
 
--- src/words.rt:150:13
 add-i : tie.Need-add-i Inv-loop μ-loop
 add-i c = omega arith
 
--- src/words.rt:130:5
 loop-less : tie.Need-loop-less Inv-loop μ-loop
 loop-less c = omega arith
 
--- src/words.rt:130:5
 loop-again : tie.Need-loop-again Inv-loop μ-loop
 loop-again c = search needs
 
--- src/words.rt:120:1
 same-length-5 : tie.Need-same-length-5 Inv-loop μ-loop
 same-length-5 c = search needs
 
--- src/words.rt:120:1
 returns-6 : tie.Need-returns-6 Inv-loop μ-loop
 returns-6 c = tt
 

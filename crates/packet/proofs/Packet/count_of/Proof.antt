@@ -7,11 +7,12 @@ use native.Mathlib.Nat.{zero-add}
 use Rattle.packet.proofs.Records.{left}
 use Rattle.packet.specs.Packet.{none, recordsOf, ofNumber}
 use native.Mathlib.Omega.{arith}
-use lib.ListN.{length, drop, length-map, length-take}
+use lib.ListN.{length, drop, length-take}
 use Prim.Native.Nat.{_≤_, _+_, _-_}
-use mathlib.Core.Path.{_≡_, sym, _∙_, ap}
+use mathlib.Core.Path.{_≡_, ap}
 use Rattle.packet.proofs.Packet.count_of.Statement.{statement}
 use Rattle.packet.proofs.Packet.count_of.Tie as tie
+use Rattle.packet.proofs.Held.{full}
 
 abbrev Inv-loop : tie.InvT-loop
 Inv-loop number self count found₀ i₀ found i = ((i ≤ count) × (found ≤ i) × (count ≤ 128)) × ((count ≡ length (recordsOf self)) × (found + length (ofNumber number (drop i (recordsOf self))) ≡ length (ofNumber number (recordsOf self))))
@@ -24,7 +25,7 @@ option-count-requires c κs = tt
 
 loop-holds : tie.Need-loop-holds Inv-loop μ-loop
 loop-holds c =
-    let n : length (c .before .args .t1 .options) ≡ 128 = sym (length-map (c .before .args .t1 .options) _) ∙ c .before .good .0 .1 .1 .1 .1 .1 .0 .1 .0 .1 in
+    let n : length (c .before .args .t1 .options) ≡ 128 = full (c .before .args .t1) (c .before .good .0) in
     (omega (arith, c .option-count .ensures, length-take (c .before .args .t1 .count) (c .before .args .t1 .options)), (c .option-count .ensures, zero-add _))
 
 mul-record : tie.Need-mul-record Inv-loop μ-loop

@@ -3,7 +3,7 @@ use Prim.Native.Nat.{_+_, _-_, _≤_}
 use mathlib.Core.Path.{_≡_, sym, _∙_}
 use mathlib.Core.List.{_∷_}
 use native.Mathlib.Omega.{arith}
-use lib.ListN.{length, drop, getD, length-map, length-take}
+use lib.ListN.{length, drop, getD, length-take}
 use borrow.Author.Needs.{needs}
 use borrow.Author.Tests.{lt-ltb, le-ltb}
 use Rattle.packet.specs.Packet.{none, recordsOf}
@@ -12,6 +12,7 @@ use Rattle.packet.proofs.Records.{left, none-left}
 use Rattle.packet.proofs.Judging.{Judging, start, turn, finds-fall, finds-value, no-fall, no-value, whole, bad-falling, bad-ranges, bad-value, judged-bad, judged-good}
 use Rattle.packet.proofs.Packet.judged.Statement.{statement}
 use Rattle.packet.proofs.Packet.judged.Tie as tie
+use Rattle.packet.proofs.Held.{full}
 
 abbrev Inv-loop : tie.InvT-loop
 Inv-loop store-len self count before₀ size₀ i₀ before size i = ((i ≤ self .count) × (self .count ≤ 128) × (length (self .options) ≡ 128)) × Judging store-len (recordsOf self) before size i
@@ -49,7 +50,7 @@ returns-3 c = judged-bad _ _ (bad-ranges _ _ (sym (c .before .bad-ranges .ensure
 loop-holds : tie.Need-loop-holds Inv-loop μ-loop
 loop-holds c =
     let st = c .before .before .before .before .before .before in
-    let n : length (st .args .t1 .options) ≡ 128 = sym (length-map (st .args .t1 .options) _) ∙ st .good .0 .1 .1 .1 .1 .1 .0 .1 .0 .1 in
+    let n : length (st .args .t1 .options) ≡ 128 = full (st .args .t1) (st .good .0) in
     (omega arith, start (st .args .«store-len») (recordsOf (st .args .t1)))
 
 mul-record : tie.Need-mul-record Inv-loop μ-loop

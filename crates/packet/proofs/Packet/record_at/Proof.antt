@@ -1,15 +1,16 @@
 use Rattle.packet.specs.Packet.{none, recordsOf}
 use native.Mathlib.Omega.{arith}
 use lib.Seq.{getD-take}
-use lib.ListN.{length, length-map, length-take, List·getD-eq-default}
-use mathlib.Core.Path.{_≡_, sym, _∙_}
+use lib.ListN.{length, length-take, List·getD-eq-default}
+use mathlib.Core.Path.{_≡_, sym}
 use borrow.Author.Needs.{needs}
 use Rattle.packet.proofs.Packet.record_at.Statement.{statement}
 use Rattle.packet.proofs.Packet.record_at.Tie as tie
+use Rattle.packet.proofs.Held.{full}
 
 returns : tie.Need-returns
 returns c =
-    let n : length (c .before .args .t1 .options) ≡ 128 = sym (length-map (c .before .args .t1 .options) _) ∙ c .before .good .0 .1 .1 .1 .1 .1 .0 .1 .0 .1 in
+    let n : length (c .before .args .t1 .options) ≡ 128 = full (c .before .args .t1) (c .before .good .0) in
     sym (List·getD-eq-default (recordsOf (c .before .args .t1)) none (omega (arith, length-take (c .before .args .t1 .count) (c .before .args .t1 .options))))
 
 returns-2 : tie.Need-returns-2

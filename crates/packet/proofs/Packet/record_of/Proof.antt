@@ -4,11 +4,12 @@ use mathlib.Core.List.{List}
 use Rattle.packet.proofs.Records as Records
 use Rattle.packet.specs.Packet.{none, recordsOf, ofNumber}
 use native.Mathlib.Omega.{arith}
-use lib.ListN.{length, drop, getD, length-map, length-take}
+use lib.ListN.{length, drop, getD, length-take}
 use Prim.Native.Nat.{_≤_, _+_, _-_}
 use mathlib.Core.Path.{_≡_, refl, sym, _∙_, ap}
 use Rattle.packet.proofs.Packet.record_of.Statement.{statement}
 use Rattle.packet.proofs.Packet.record_of.Tie as tie
+use Rattle.packet.proofs.Held.{full}
 
 abbrev Inv-loop : tie.InvT-loop
 Inv-loop number n self count left₀ i₀ left i = ((i ≤ count) × (left ≤ n) × (count ≤ 128)) × ((count ≡ length (recordsOf self)) × (getD (ofNumber number (drop i (recordsOf self))) left none ≡ getD (ofNumber number (recordsOf self)) n none))
@@ -21,7 +22,7 @@ option-count-requires c κs = tt
 
 loop-holds : tie.Need-loop-holds Inv-loop μ-loop
 loop-holds c =
-    let n : length (c .before .args .t1 .options) ≡ 128 = sym (length-map (c .before .args .t1 .options) _) ∙ c .before .good .0 .1 .1 .1 .1 .1 .0 .1 .0 .1 in
+    let n : length (c .before .args .t1 .options) ≡ 128 = full (c .before .args .t1) (c .before .good .0) in
     (omega (arith, c .option-count .ensures, length-take (c .before .args .t1 .count) (c .before .args .t1 .options)), (c .option-count .ensures, refl))
 
 mul-record : tie.Need-mul-record Inv-loop μ-loop

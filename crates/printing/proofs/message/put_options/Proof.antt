@@ -1,9 +1,9 @@
 -- `put_options` meets its contract: once the lines of the options that are left are put, all are.
 use Prim.Native.Nat.{ℕ, _-_, _≤_}
-use mathlib.Core.Path.{_≡_, sym, _∙_, ap}
+use mathlib.Core.Path.{_≡_, ap}
 use mathlib.Core.List.{List, map}
 use native.Mathlib.Omega.{arith}
-use lib.ListN.{length, drop, length-map, length-take}
+use lib.ListN.{length, drop, length-take}
 use Rattle.packet.specs.Packet.{recordsOf}
 use Rattle.packet.specs.Meaning.{optionOf}
 use Rattle.packet.specs.declared.OptionRecord.{OptionRecord}
@@ -12,6 +12,7 @@ use Rattle.printing.specs.Lines.{optionLines}
 use Rattle.printing.proofs.Puts.{Putting, putting-start, putting-turn, putting-end}
 use Rattle.printing.proofs.message.put_options.Statement.{statement}
 use Rattle.printing.proofs.message.put_options.Tie as tie
+use Rattle.packet.proofs.Held.{full}
 
 -- The lines of records over a store.
 abbrev lines : ℕ → List ℕ → List OptionRecord → List ℕ
@@ -30,7 +31,7 @@ option-count-requires c κs = tt
 loop-holds : tie.Need-loop-holds Inv-loop μ-loop
 loop-holds c =
     let p = c .before .before .before .args .t3 in
-    let n : length (p .options) ≡ 128 = sym (length-map (p .options) _) ∙ c .before .before .before .good .1 .1 .0 .1 .1 .1 .1 .1 .0 .1 .0 .1 in
+    let n : length (p .options) ≡ 128 = full p (c .before .before .before .good .1 .1 .0) in
     (omega (arith, c .option-count .ensures, length-take (p .count) (p .options)), (c .option-count .ensures, putting-start _ _ _))
 
 mul-record : tie.Need-mul-record Inv-loop μ-loop
