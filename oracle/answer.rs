@@ -9,7 +9,7 @@ use std::collections::LinkedList;
 use std::panic;
 
 /// A longer line is no request.
-const LONGEST_LINE: usize = 200_000;
+pub const LONGEST_LINE: usize = 200_000;
 /// The longest output that a request can lend.
 pub const MOST_ROOM: u64 = 71_000;
 /// How many bytes the store of an edit script holds.
@@ -74,7 +74,7 @@ fn written(bytes: &[u8], room: u64) -> String {
     format!("written {} {}", bytes.len(), hex(bytes))
 }
 
-fn yes(is: bool) -> String {
+pub fn yes(is: bool) -> String {
     if is { "yes" } else { "no" }.into()
 }
 

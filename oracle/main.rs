@@ -7,15 +7,17 @@ mod differ;
 mod generate;
 mod request;
 mod sample;
+mod strict;
 
 use std::io::{self, BufRead, BufWriter, Write};
 use std::path::Path;
 use std::process::ExitCode;
 use std::{env, panic};
 
-const USAGE: &str = "usage: oracle answer              the answers to the requests on standard input
+const USAGE: &str = "usage: oracle answer              coap-lite's answers to the requests on standard input
+       oracle answer-strict       the answers to those that coap-lite has none to, from the documents
        oracle plain SEED SIZE     requests that coap-lite has to answer as the Rattle program does
-       oracle strict SEED SIZE    requests that only the Rattle program answers
+       oracle strict SEED SIZE    requests that coap-lite has no answer to
        oracle outside             requests outside coap-lite's part, to show what differs
        oracle sample FOLDER       writes requests and expected answers to FOLDER/stdin and FOLDER/stdout
        oracle differ REQUESTS RUST RATTLE     how many of the answers in the two files differ
@@ -38,14 +40,16 @@ fn run(words: &[&str]) -> io::Result<ExitCode> {
     let mut out = BufWriter::new(io::stdout().lock());
     let number = |word: &str| word.parse().map_err(|_| io::Error::other(format!("{word} is no number\n{USAGE}")));
     let mut status = ExitCode::SUCCESS;
+    if matches!(words, ["answer"] | ["sample", _]) {
+        // coap-lite's panics are answers, and not to be reported.
+        panic::set_hook(Box::new(|_| ()));
+    }
     match *words {
-        ["answer"] => answer_all(&mut out)?,
+        ["answer"] => answer_all(answer::answer, &mut out)?,
+        ["answer-strict"] => answer_all(strict::answer, &mut out)?,
         ["plain", seed, size] => generate::plain(number(seed)?, number(size)? as usize, &mut out)?,
         ["strict", seed, size] => generate::strict(number(seed)?, number(size)? as usize, &mut out)?,
-        ["sample", folder] => {
-            panic::set_hook(Box::new(|_| ()));
-            sample::write(Path::new(folder))?
-        }
+        ["sample", folder] => sample::write(Path::new(folder))?,
         ["outside"] => generate::outside(&mut out)?,
         ["differ", requests, rust, rattle] => {
             if differ::count([requests, rust, rattle], &mut out)? > 0 {
@@ -59,11 +63,9 @@ fn run(words: &[&str]) -> io::Result<ExitCode> {
     Ok(status)
 }
 
-fn answer_all(out: &mut impl Write) -> io::Result<()> {
-    // coap-lite's panics are answers here, and not to be reported.
-    panic::set_hook(Box::new(|_| ()));
+fn answer_all(answer: fn(&[u8]) -> String, out: &mut impl Write) -> io::Result<()> {
     for line in io::stdin().lock().split(b'\n') {
-        writeln!(out, "{}", answer::answer(&line?))?;
+        writeln!(out, "{}", answer(&line?))?;
     }
     Ok(())
 }

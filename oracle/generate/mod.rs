@@ -29,23 +29,34 @@ impl<W: Write> Lines<'_, W> {
             self.fault = writeln!(self.out, "{line}");
         }
     }
+
+    fn put_strict(&mut self, line: &str) {
+        if let Some(line) = strict_form(line) {
+            self.put(&line);
+        }
+    }
+
+    /// All that a list has; or, where that would be more than three quarters of what is left, only every third, fifth ..
+    /// of it: an odd step, since kinds take turns.
+    fn put_thinned(&mut self, list: impl Fn(&mut dyn FnMut(String))) {
+        let mut count = 0;
+        list(&mut |_| count += 1);
+        let every = (count / (self.left * 3 / 4).max(1) + 1) | 1;
+        let mut at = 0;
+        list(&mut |line| {
+            if at % every == 0 {
+                self.put(&line);
+            }
+            at += 1;
+        });
+    }
 }
 
-/// The fixed requests, then the short ones, then random ones until there are `size`. Where the short ones would be
-/// more than half of what is left, only every third, fifth .. of them is taken; an odd step, since kinds take turns.
+/// The fixed requests, then the short ones, then random ones until there are `size`.
 pub fn plain(seed: u64, size: usize, out: &mut impl Write) -> io::Result<()> {
     let mut lines = Lines { out, left: size, fault: Ok(()) };
     fixed::plain(&mut |line| lines.put(&line));
-    let mut count = 0;
-    short::all(&mut |_| count += 1);
-    let every = (count / (lines.left / 2).max(1) + 1) | 1;
-    let mut at = 0;
-    short::all(&mut |line| {
-        if at % every == 0 {
-            lines.put(&line);
-        }
-        at += 1;
-    });
+    lines.put_thinned(short::all);
     let mut varied = Varied::new(Random::new(seed));
     while lines.go_on() {
         lines.put(&varied.plain());
@@ -56,18 +67,13 @@ pub fn plain(seed: u64, size: usize, out: &mut impl Write) -> io::Result<()> {
 /// The strict forms of plain requests, and requests that have no plain form.
 pub fn strict(seed: u64, size: usize, out: &mut impl Write) -> io::Result<()> {
     let mut lines = Lines { out, left: size, fault: Ok(()) };
-    fixed::plain(&mut |line| {
-        if let Some(line) = strict_form(&line) {
-            lines.put(&line);
-        }
-    });
+    fixed::plain(&mut |line| lines.put_strict(&line));
     fixed::strict(&mut |line| lines.put(&line));
+    lines.put_thinned(|put| short::strict(&mut |line| strict_form(&line).into_iter().for_each(&mut *put)));
     let mut varied = Varied::new(Random::new(seed));
     while lines.go_on() {
-        lines.put(&varied.strict());
-        if let Some(line) = strict_form(&varied.plain()) {
-            lines.put(&line);
-        }
+        lines.put_strict(&varied.strict());
+        lines.put_strict(&varied.plain());
     }
     lines.fault
 }
@@ -79,8 +85,14 @@ pub fn outside(out: &mut impl Write) -> io::Result<()> {
     lines.fault
 }
 
+/// The strict form of a request; one that has no plain form is its own.
 fn strict_form(line: &str) -> Option<String> {
     let (name, rest) = line.split_once(' ')?;
-    let strict = ["read", "write", "block-new", "block-read", "block-write", "block-size"];
-    strict.contains(&name).then(|| format!("{name}-strict {rest}"))
+    match name {
+        "read" | "write" | "block-new" | "block-read" | "block-write" | "block-size" => {
+            Some(format!("{name}-strict {rest}"))
+        }
+        "register" | "properties" => Some(line.into()),
+        _ => None,
+    }
 }

@@ -15,6 +15,18 @@ pub fn all(put: &mut dyn FnMut(String)) {
     }
 }
 
+/// What is asked in its strict form, and what has no plain form.
+pub fn strict(put: &mut dyn FnMut(String)) {
+    datagrams(put);
+    blocks(put);
+    for exponent in 8..=255 {
+        put(format!("block-size {exponent}"));
+    }
+    for number in 0..=65535 {
+        put(format!("properties {number}"));
+    }
+}
+
 /// All byte strings of at most two bytes.
 fn two_bytes(mut put: impl FnMut(String)) {
     put("-".into());

@@ -55,27 +55,18 @@ impl Varied {
         }
     }
 
-    /// A request with no plain form, or one past what the plain form can ask.
+    /// A request to be asked in its strict form, or one that has no plain form. Some are past what coap-lite takes.
     pub fn strict(&mut self) -> String {
-        match self.random.below(6) {
-            0 | 1 => format!("register {}", self.registered().asked()),
-            2 => format!("properties {}", self.random.wide(16)),
-            3 => {
-                let exponent = self.random.near(&[2, 6, 15, 255]).min(255);
-                format!("block-size-strict {exponent}")
-            }
-            4 => {
-                let number = self.random.near(&[2, 4095, 65535, 1_048_575]);
-                let (more, exponent) = (self.random.below(2), self.random.below(9));
-                format!("block-write-strict {} {number} {more} {exponent}", self.random.below(5))
-            }
-            _ => {
-                let count = self.random.near(&[MOST_OPTIONS]);
-                let mut parts = self.parts_of(count);
-                parts.token.truncate(8);
-                let datagram = parts.datagram();
-                format!("read-strict {}", hex(&datagram))
-            }
+        const LONG: usize = LONG_EVERY / 5;
+        if self.made % LONG == 1 && self.made / LONG < LONG_MOST {
+            return self.long_strict();
+        }
+        match self.random.below(16) {
+            0..=4 => format!("register {}", self.registered().asked()),
+            5..=8 => self.write_strict(),
+            9 => self.full_read(),
+            10 | 11 => self.last_number_read(),
+            _ => self.block_strict(),
         }
     }
 
@@ -148,19 +139,47 @@ impl Varied {
         self.random.bytes(length)
     }
 
-    /// A packet with options that the register lists, and a few beside them.
+    /// A packet with options that pass the register, and a few that need not.
     fn registered(&mut self) -> Parts {
-        const LISTED: [u16; 24] =
+        const PASSING: [u16; 8] = [1, 4, 8, 11, 15, 20, 28, 258];
+        const TELLING: [u16; 24] =
             [1, 3, 4, 5, 6, 7, 8, 11, 12, 14, 15, 17, 20, 23, 27, 35, 39, 60, 9, 28, 258, 0, 2, 13];
         let mut parts = self.parts();
-        let count = self.random.below(5);
-        parts.options.clear();
-        for _ in 0..count {
-            let length = if self.random.one_in(8) { self.random.near(&[8, 255, 1034]) } else { self.random.below(5) };
-            parts.options.push((self.random.of(&LISTED), self.random.bytes(length)));
+        let passing = if self.random.one_in(20) { self.random.below(MOST_OPTIONS) } else { self.random.below(4) };
+        let passes = |_| (self.random.of(&PASSING), self.random.bytes(1));
+        parts.options = (0..passing).map(passes).collect();
+        for _ in 0..self.random.below(4) {
+            let length = self.random.near(&[0, 2, 2, 4, 8, 255, 1034]);
+            let option = (self.random.of(&TELLING), self.random.bytes(length));
+            let times = 1 + usize::from(self.random.one_in(3));
+            parts.options.extend(vec![option; times]);
         }
         parts.options.sort_by_key(|&(number, _)| number);
+        if self.random.one_in(6) {
+            self.spoil(&mut parts);
+        }
         parts
+    }
+
+    /// Brings one thing in a packet beside the most that a writer takes.
+    fn spoil(&mut self, parts: &mut Parts) {
+        match self.random.below(4) {
+            0 => parts.version = self.random.near(&[3, 253]) as u8,
+            1 => {
+                let length = self.random.near(&[8, 15]);
+                parts.token = self.random.bytes(length);
+            }
+            2 => {
+                let count = self.random.near(&[MOST_OPTIONS]);
+                parts.options = self.options(count);
+            }
+            _ => {
+                let at = self.random.below(parts.options.len() + 1);
+                let beside = parts.options.get(at).map_or(0, |&(number, _)| number.into());
+                let number = self.random.near(&[beside]).min(65535) as u16;
+                parts.options.insert(at, (number, self.value(6)));
+            }
+        }
     }
 
     // ---- reading
@@ -188,6 +207,25 @@ impl Varied {
         parts.payload.clear();
         let datagram = parts.datagram();
         format!("read {}{}", hex(&datagram), self.random.of(&TAILS))
+    }
+
+    /// As many options as a packet holds, or up to two fewer or more.
+    fn full_read(&mut self) -> String {
+        let count = self.random.near(&[MOST_OPTIONS]);
+        let mut parts = self.parts_of(count);
+        parts.token.truncate(8);
+        format!("read {}", hex(&parts.datagram()))
+    }
+
+    /// Any option after one whose number is beside the largest.
+    fn last_number_read(&mut self) -> String {
+        let mut parts = self.parts();
+        parts.token.truncate(8);
+        parts.payload.clear();
+        parts.options.push((65535 - self.random.below(15) as u16, self.value(6)));
+        let mut datagram = parts.datagram();
+        self.option(&mut datagram);
+        format!("read {}", hex(&datagram))
     }
 
     /// A datagram as coap-lite writes it. A token of more than 8 bytes makes it one that can't be read.
@@ -286,6 +324,21 @@ impl Varied {
     }
 
     fn write_of(&mut self, parts: &Parts) -> String {
+        format!("write {} {}", self.bounds(parts), parts.asked())
+    }
+
+    /// A packet with a fault or two, most often.
+    fn write_strict(&mut self) -> String {
+        let mut parts = self.parts();
+        let bounds = self.bounds(&parts);
+        for _ in 0..self.random.below(3) {
+            self.spoil(&mut parts);
+        }
+        format!("write {bounds} {}", parts.asked())
+    }
+
+    /// A limit and a room, some of them beside what a packet takes.
+    fn bounds(&mut self, parts: &Parts) -> String {
         let limit = match self.random.below(8) {
             0..=2 => "default".into(),
             3 | 4 => "none".into(),
@@ -297,7 +350,7 @@ impl Varied {
             2 => self.random.below(8) as u64,
             _ => MOST_ROOM,
         };
-        format!("write {limit} {room} {}", parts.asked())
+        format!("{limit} {room}")
     }
 
     // ---- uints, text, header, blocks
@@ -391,6 +444,26 @@ impl Varied {
         }
     }
 
+    /// Blocks with numbers and sizes beside the largest, and values of two to four bytes.
+    fn block_strict(&mut self) -> String {
+        let number = match self.random.below(4) {
+            0 => self.random.wide(32) as usize,
+            _ => self.random.near(&[2, 4095, 65535, 1_048_575]),
+        };
+        let more = self.random.below(2);
+        match self.random.below(3) {
+            0 => {
+                let size = 8 << self.random.below(9);
+                format!("block-new {number} {more} {}", self.random.of(&[size - 1, size, size, size, size + 1]))
+            }
+            1 => {
+                let length = 2 + self.random.below(3);
+                format!("block-read {}", hex(&self.random.bytes(length)))
+            }
+            _ => format!("block-write {} {number} {more} {}", self.random.below(5), self.random.below(9)),
+        }
+    }
+
     fn header(&mut self) -> String {
         format!("header-read {}", hex(&self.random.up_to(6)))
     }
@@ -452,6 +525,30 @@ impl Varied {
             _ => parts.payload.extend(bytes),
         }
         self.write_of(&parts)
+    }
+
+    /// A datagram or a store beside the longest, or a value beside the longest.
+    fn long_strict(&mut self) -> String {
+        let mut parts = self.parts();
+        let aim = self.random.near(&[STORE]);
+        if self.random.one_in(3) {
+            let mut datagram = parts.datagram();
+            datagram.push(0xff);
+            datagram.resize(aim, 0x61);
+            return format!("read {}", hex(&datagram));
+        }
+        if self.random.one_in(3) {
+            self.spoil(&mut parts);
+        }
+        if self.random.one_in(2) {
+            let length = self.random.near(&[65804]);
+            parts.options.push((65535, self.random.bytes(length)));
+        }
+        if self.random.one_in(2) {
+            let missing = aim.saturating_sub(parts.store());
+            parts.payload.extend(self.random.bytes(missing));
+        }
+        format!("{} {}", self.random.of(&["register", "write none 71000"]), parts.asked())
     }
 }
 
