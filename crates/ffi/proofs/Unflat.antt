@@ -12,7 +12,8 @@ use borrow.Author.Tests.{lt-ltb, le-ltb, ltb-false}
 use Rattle.rfc.proofs.Choice.{by-eq, neither, none-of, either-right}
 use Rattle.packet.specs.Packet.{none}
 use Rattle.packet.specs.declared.OptionRecord.{OptionRecord}
-use Rattle.ffi.specs.Unflat.{badHead, badNumbers, badFlat, recordAt, recordsIn}
+use Rattle.packet.specs.declared.Packet.{Packet}
+use Rattle.ffi.specs.Unflat.{badHead, badNumbers, badFlat, unflatHeader, recordAt, recordsIn}
 
 -- One record with a number over 65535 makes all bad.
 pub bad-by : (l : List ℕ) (n i : ℕ) → i < n → 65535 < getD l (9 + 3 * i) 0 → badNumbers l n ≡ true
@@ -81,7 +82,7 @@ records-length l zero = refl
 records-length l (suc n) = simp length-append (omega (arith, records-length l n))
 
 -- One more record in the array.
-pub filled : (l : List ℕ) (records : List OptionRecord) (i : ℕ) → i < 128 → records ≡ recordsIn l i ++ replicate (128 - i) none
+filled : (l : List ℕ) (records : List OptionRecord) (i : ℕ) → i < 128 → records ≡ recordsIn l i ++ replicate (128 - i) none
     → set records i (recordAt l (9 + 3 * i)) ≡ recordsIn l (i + 1) ++ replicate (128 - (i + 1)) none
 filled l records i h e =
     let left : 128 - i ≡ suc (128 - (i + 1)) = omega arith in
@@ -90,3 +91,20 @@ filled l records i h e =
     (set-at (recordsIn l i) none (replicate (128 - (i + 1)) none) (recordAt l (9 + 3 * i)) i (records-length l i)
     ∙ (sym (append-assoc (recordsIn l i) (recordAt l (9 + 3 * i) ∷ []) (replicate (128 - (i + 1)) none))
     ∙ ap (λ (rs : List OptionRecord). rs ++ replicate (128 - (i + 1)) none) (sym next)))
+
+-- The packet of a flat form as far as its first records.
+abbrev pub upTo : List ℕ → ℕ → Packet
+upTo l i =
+    record {
+      header = unflatHeader l;
+      token = record { start = getD l 4 0; len = getD l 5 0 };
+      count = getD l 8 0;
+      options = recordsIn l i ++ replicate (128 - i) none;
+      payload = record { start = getD l 6 0; len = getD l 7 0 };
+    }
+
+pub one-more : (l : List ℕ) (p : Packet) (i : ℕ) → i < 128 → p ≡ upTo l i
+    → record { header = p .header; token = p .token; count = p .count; options = set (p .options) i (recordAt l (9 + 3 * i)); payload = p .payload } ≡ upTo l (i + 1)
+one-more l p i h e =
+    let options = filled l (p .options) i h (ap (λ (q : Packet). q .options) e) in
+    λ j. record { header = e j .header; token = e j .token; count = e j .count; options = options j; payload = e j .payload }

@@ -32,10 +32,7 @@ pub extern "C" fn rickwinter_read(strict: bool, datagram: &[u8], out: &mut [u32]
     ensures { λ r. ⌜ r ≡ numberIn (handed (length (now (out .entry))) (reading strict (now (datagram .entry)))) ⌝ }
     ensures { λ r. ⌜ now (out .exit) ≡ left (handed (length (now (out .entry))) (reading strict (now (datagram .entry)))) (now (out .entry)) ⌝ }
 {
-    if strict {
-        return hand_over(reading::from_bytes_strict(datagram), out);
-    }
-    hand_over(reading::from_bytes(datagram), out)
+    hand_over(reading::from_bytes_in(strict, datagram), out)
 }
 
 // Writes the packet of a flat form, which may stand at the start of a longer slice, without a limit. The length of what
@@ -64,10 +61,8 @@ pub extern "C" fn rickwinter_copy(strict: bool, datagram: &[u8], out: &mut [u8])
     ensures { λ r. ⌜ r ≡ lengthIn (copying strict (length (now (out .entry))) (now (datagram .entry)) (reading strict (now (datagram .entry)))) ⌝ }
     ensures { λ r. ⌜ now (out .exit) ≡ copied strict (now (datagram .entry)) (reading strict (now (datagram .entry))) (now (out .entry)) ⌝ }
 {
-    if strict {
-        return copy_over(true, reading::from_bytes_strict(datagram), datagram, out);
-    }
-    copy_over(false, reading::from_bytes(datagram), datagram, out)
+    let read = reading::from_bytes_in(strict, datagram);
+    copy_over(strict, read, datagram, out)
 }
 
 // What reading answered, as numbers.
@@ -187,18 +182,30 @@ fn bad_numbers(flat: &[u32], count: usize) -> bool
     false
 }
 
-// The packet of a flat form.
+// The packet of a flat form. Its records are put where they stay: an array of their own would be copied into it.
 fn packet_in(flat: &[u32]) -> Packet
     requires { ⌜ badFlat (now flat) ≡ Bool.false ⌝ }
     ensures { λ r. ⌜ r ≡ unflat (now (flat .entry)) ⌝ }
 {
     let header = header_in(flat);
+    let token = Range {
+        start: flat[4],
+        len: flat[5],
+    };
+    let payload = Range {
+        start: flat[6],
+        len: flat[7],
+    };
     let count = flat[8] as usize;
-    let mut records = [OptionRecord::EMPTY; 128];
+    let mut packet = Packet::new();
+    packet.header = header;
+    packet.token = token;
+    packet.count = count;
+    packet.payload = payload;
     let mut i = 0;
     while i < count {
         let at = 9 + 3 * i;
-        records[i] = OptionRecord {
+        packet.options[i] = OptionRecord {
             number: flat[at] as u16,
             spare: 0,
             start: flat[at + 1],
@@ -206,19 +213,7 @@ fn packet_in(flat: &[u32]) -> Packet
         };
         i = i + 1;
     }
-    Packet {
-        header,
-        token: Range {
-            start: flat[4],
-            len: flat[5],
-        },
-        count,
-        options: records,
-        payload: Range {
-            start: flat[6],
-            len: flat[7],
-        },
-    }
+    packet
 }
 
 // The header of a flat form.

@@ -75,6 +75,7 @@ impl Packet {
         ensures { λ r. ⌜ r ≡ judged «store_len» self ⌝ }
     {
         let count = self.count;
+        let options = self.options;
         if 3 < self.header.version {
             return Judged::BadRecord;
         }
@@ -88,7 +89,7 @@ impl Packet {
         let mut size: usize = 0;
         let mut i = 0;
         while i < count {
-            let record = self.options[i];
+            let record = options[i];
             if record.number < before {
                 return Judged::BadRecord;
             }

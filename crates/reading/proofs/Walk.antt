@@ -6,7 +6,6 @@ use lib.Dec.{eqb}
 use Rattle.rfc.specs.Choice.{both}
 use Rattle.header.specs.Header.{headerOf}
 use Rattle.header.specs.declared.HeaderRaw.{HeaderRaw}
-use Rattle.header.specs.declared.Header.{Header}
 use Rattle.reading.specs.Reading.{tokenOf, packetOf, finished}
 use mathlib.Core.List.{List, [], _∷_, _++_, append-assoc, append-nil}
 use native.Mathlib.Omega.{arith}
@@ -98,15 +97,15 @@ module _ (longest : ℕ) (s : List ℕ) where
         ∙ ap (λ (l : List OptionRecord). given (record { records = l; marked = marked; payload = payload })) (append-nil (w .found)))
 
     -- The packet that is made of the walk's records is that of the definition.
-    pub packet-is : (raw : HeaderRaw) (header : Header) (marked : Bool) (payload : ℕ) → header ≡ headerOf raw
-        → record { header = header; token = record { start = 4; len = tokenOf raw }; count = count; options = records; payload = record { start = payload; len = length s - payload } }
+    pub packet-is : (raw : HeaderRaw) (marked : Bool) (payload : ℕ)
+        → record { header = headerOf raw; token = record { start = 4; len = tokenOf raw }; count = count; options = records; payload = record { start = payload; len = length s - payload } }
         ≡ packetOf s raw (record { records = w .found; marked = marked; payload = payload })
     unfolding packetOf
-    packet-is raw header marked payload e =
+    packet-is raw marked payload =
         let options : records ≡ w .found ++ replicate (128 - length (w .found)) none =
         w .array ∙ ap (λ (n : ℕ). w .found ++ replicate (128 - n) none) (w .counted) in
         λ i.
-        record { header = e i; token = record { start = 4; len = tokenOf raw }; count = w .counted i; options = options i; payload = record { start = payload; len = length s - payload } }
+        record { header = headerOf raw; token = record { start = 4; len = tokenOf raw }; count = w .counted i; options = options i; payload = record { start = payload; len = length s - payload } }
 
 -- A marker that ends the datagram is refused, and any other end gives the packet.
 module _ (strict : Bool) (s : List ℕ) (raw : HeaderRaw) (t : Tail) where

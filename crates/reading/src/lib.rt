@@ -11,13 +11,14 @@ ghost use mathlib.Core.Path.{_≡_};
 ghost use mathlib.Core.Bool.{Bool, not};
 ghost use lib.Dec.{eqb, ltb};
 ghost use Rattle.rfc.specs.Choice.{both, either};
-ghost use Prim.Native.Nat.{_+_, _-_, _≤_, _<_};
+ghost use Prim.Native.Nat.{_-_, _≤_, _<_};
 ghost use lib.ListN.{length, getD};
 ghost use Rattle.refusal.specs.Answer.{refused};
 ghost use Rattle.refusal.specs.Number.{numberOf};
-ghost use Rattle.reading.specs.Answers.{ByteAt, extendedOf, foundOf};
-ghost use Rattle.reading.specs.Option.{extended, valueAt, lengthAt, optionAt, placeAt, options, onward};
-ghost use Rattle.reading.specs.Reading.{decoded, readOf, reading, longest, tokenOf, finished, afterHeader};
+ghost use Rattle.header.specs.Header.{rawRead, headerOf};
+ghost use Rattle.reading.specs.Answers.{ByteAt, Opened, extendedOf, foundOf};
+ghost use Rattle.reading.specs.Option.{extended, valueAt, lengthAt, optionAt, placeAt};
+ghost use Rattle.reading.specs.Reading.{decoded, readOf, reading, longest, tokenOf, afterHeader};
 
 // What reading answers. The packet of a refused datagram is the new packet.
 pub struct Decoded {
@@ -39,15 +40,73 @@ pub fn from_bytes_strict(buf: &[u8]) -> Decoded
     from_bytes_in(true, buf)
 }
 
-fn from_bytes_in(strict: bool, buf: &[u8]) -> Decoded
+// Either of them, with the mode as an argument. The packet is made here alone: a function that hands a `Decoded` on
+// copies it.
+pub fn from_bytes_in(strict: bool, buf: &[u8]) -> Decoded
     ensures { λ r. ⌜ decoded r ≡ readOf (reading strict (now (buf .entry))) ⌝ }
 {
-    if 70000 < buf.len() {
-        return refused(Refusal::TooLong);
+    let raw = match opening(strict, buf) {
+        RawRead::Refused(e) => {
+            return refused(e);
+        }
+        RawRead::Raw(raw) => raw,
+    };
+    let token_length = raw.ver_type_tkl % 16;
+    let most = longest_value(strict);
+    let mut records = [OptionRecord::EMPTY; 128];
+    let mut count = 0;
+    let mut number: u16 = 0;
+    let mut idx = 4 + token_length as usize;
+    loop {
+        match place_at(most, buf, number, idx) {
+            Found::Refused(e) => {
+                return refused(e);
+            }
+            Found::End { marked, payload } => {
+                if marker_alone(strict, marked, payload, buf.len()) {
+                    return refused(Refusal::MarkerAlone);
+                }
+                return Decoded {
+                    outcome: Outcome::Done,
+                    packet: packet_of(raw, count, records, payload, buf.len()),
+                };
+            }
+            Found::Option(r) => {
+                if 128 <= count {
+                    return refused(Refusal::TooManyOptions);
+                }
+                records[count] = r;
+                count = count + 1;
+                number = r.number;
+                idx = r.start as usize + r.len as usize;
+            }
+        }
     }
-    match HeaderRaw::try_from(buf) {
-        RawRead::Refused(e) => refused(e),
-        RawRead::Raw(raw) => after_header(strict, buf, raw),
+}
+
+// The packet of a header and its records, with a payload from a position to the end.
+fn packet_of(
+    raw: HeaderRaw,
+    count: usize,
+    options: [OptionRecord; 128],
+    payload: usize,
+    end: usize,
+) -> Packet
+    requires { ⌜ (payload ≤ end) × (end ≤ 70000) ⌝ }
+    ensures { λ r. ⌜ r ≡ record { header = headerOf raw; token = record { start = 4; len = tokenOf raw }; count = count; options = options; payload = record { start = payload; len = end - payload } } ⌝ }
+{
+    Packet {
+        header: Header::from_raw(raw),
+        token: Range {
+            start: 4,
+            len: (raw.ver_type_tkl % 16) as u32,
+        },
+        count,
+        options,
+        payload: Range {
+            start: payload as u32,
+            len: (end - payload) as u32,
+        },
     }
 }
 
@@ -61,25 +120,38 @@ fn refused(e: Refusal) -> Decoded
     }
 }
 
-// Version, token and emptiness, then the options.
-fn after_header(strict: bool, buf: &[u8], raw: HeaderRaw) -> Decoded
-    requires { ⌜ (4 ≤ length (now buf)) × (length (now buf) ≤ 70000) ⌝ }
-    ensures { λ r. ⌜ decoded r ≡ readOf (afterHeader strict (now (buf .entry)) raw) ⌝ }
+// The header of a datagram that is refused for nothing before its options.
+fn opening(strict: bool, buf: &[u8]) -> RawRead
+    ensures { λ r. ⌜ Opened strict (now (buf .entry)) (reading strict (now (buf .entry))) (rawRead r) ⌝ }
+{
+    if 70000 < buf.len() {
+        return RawRead::Refused(Refusal::TooLong);
+    }
+    match HeaderRaw::try_from(buf) {
+        RawRead::Refused(e) => RawRead::Refused(e),
+        RawRead::Raw(raw) => after_header(strict, buf, raw),
+    }
+}
+
+// Version, token and emptiness.
+fn after_header(strict: bool, buf: &[u8], raw: HeaderRaw) -> RawRead
+    requires { ⌜ length (now buf) ≤ 70000 ⌝ }
+    ensures { λ r. ⌜ Opened strict (now (buf .entry)) (afterHeader strict (now (buf .entry)) raw) (rawRead r) ⌝ }
 {
     let token_length = (raw.ver_type_tkl % 16) as usize;
     if wrong_version(strict, raw.ver_type_tkl / 64) {
-        return refused(Refusal::WrongVersion);
+        return RawRead::Refused(Refusal::WrongVersion);
     }
     if 8 < token_length {
-        return refused(Refusal::InvalidTokenLength);
+        return RawRead::Refused(Refusal::InvalidTokenLength);
     }
     if buf.len() < 4 + token_length {
-        return refused(Refusal::InvalidTokenLength);
+        return RawRead::Refused(Refusal::InvalidTokenLength);
     }
     if empty_carries(strict, raw.code, buf.len(), token_length) {
-        return refused(Refusal::EmptyCarries);
+        return RawRead::Refused(Refusal::EmptyCarries);
     }
-    read_options(strict, buf, raw)
+    RawRead::Raw(raw)
 }
 
 fn wrong_version(strict: bool, version: u8) -> bool
@@ -116,56 +188,6 @@ fn longest_value(strict: bool) -> usize
     ensures { λ r. ⌜ r ≡ longest strict ⌝ }
 {
     if strict { 65804 } else { 65535 }
-}
-
-// The options of a datagram from the end of its token, and the packet.
-fn read_options(strict: bool, buf: &[u8], raw: HeaderRaw) -> Decoded
-    requires { ⌜ (4 + tokenOf raw ≤ length (now buf)) × (length (now buf) ≤ 70000) ⌝ }
-    ensures { λ r. ⌜ decoded r ≡ readOf (onward (options (longest strict) (now (buf .entry)) 128 0 (4 + tokenOf raw)) (finished strict (now (buf .entry)) raw)) ⌝ }
-{
-    let token_length = raw.ver_type_tkl % 16;
-    let most = longest_value(strict);
-    let mut records = [OptionRecord::EMPTY; 128];
-    let mut count = 0;
-    let mut number: u16 = 0;
-    let mut idx = 4 + token_length as usize;
-    loop {
-        match place_at(most, buf, number, idx) {
-            Found::Refused(e) => {
-                return refused(e);
-            }
-            Found::End { marked, payload } => {
-                if marker_alone(strict, marked, payload, buf.len()) {
-                    return refused(Refusal::MarkerAlone);
-                }
-                return Decoded {
-                    outcome: Outcome::Done,
-                    packet: Packet {
-                        header: Header::from_raw(raw),
-                        token: Range {
-                            start: 4,
-                            len: token_length as u32,
-                        },
-                        count,
-                        options: records,
-                        payload: Range {
-                            start: payload as u32,
-                            len: (buf.len() - payload) as u32,
-                        },
-                    },
-                };
-            }
-            Found::Option(r) => {
-                if 128 <= count {
-                    return refused(Refusal::TooManyOptions);
-                }
-                records[count] = r;
-                count = count + 1;
-                number = r.number;
-                idx = r.start as usize + r.len as usize;
-            }
-        }
-    }
 }
 
 // What stands at a position where an option may.

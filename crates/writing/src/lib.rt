@@ -8,18 +8,16 @@ use refusal::Refusal;
 use refusal::Written;
 ghost use mathlib.Core.Path.{_≡_};
 ghost use mathlib.Core.Bool.{Bool, false, not};
-ghost use mathlib.Core.List.{map};
 ghost use Prim.Native.Nat.{_+_, _*_, _≤_};
 ghost use lib.ListN.{length};
 ghost use lib.Dec.{eqb, ltb};
 ghost use Rattle.rfc.specs.Choice.{both, either};
-ghost use Rattle.rfc.specs.Message.{nibbleOf, extensionOf, optionLayout, optionsLayout, payloadLayout};
+ghost use Rattle.rfc.specs.Message.{nibbleOf, extensionOf, optionLayout, payloadLayout};
 ghost use Rattle.rfc.proofs.Part.{Put};
 ghost use Rattle.refusal.specs.Answer.{written, after};
 ghost use Rattle.header.specs.Class.{byteOf};
 ghost use Rattle.header.specs.Header.{rawBytes, rawOf};
 ghost use Rattle.packet.specs.Packet.{recordsOf};
-ghost use Rattle.packet.specs.Meaning.{optionOf};
 ghost use Rattle.packet.specs.Judge.{badPacket, optionsSize};
 ghost use Rattle.writing.specs.Writing.{writing, bytesWritten, over, sentPayload, markerSize, emptyCarries, strictly, limited, counted, sizeFitted, writtenSize};
 
@@ -212,8 +210,9 @@ impl Limit {
     }
 }
 
-// Puts the message at the start of the output: header, token, options, payload. Each of the functions that follow puts
-// bytes into the output at a place where there is room for them, and returns the place after them.
+// Puts the message at the start of the output: header, token, options, payload. The options are taken out and walked in
+// this function: in one of their own they would be copied again. Each of the functions that follow puts bytes into the
+// output at a place where there is room for them, and returns the place after them.
 fn put_message(out: &mut [u8], strict: bool, packet: Packet, store: &[u8]) -> usize
     requires { ⌜ (badPacket (length (now store)) packet ≡ false) × (length (bytesWritten strict (now store) packet) ≤ length (now out)) ⌝ }
     ensures { λ r. ⌜ Put (now (out .entry)) 0 (bytesWritten strict (now (store .entry)) packet) r (now (out .exit)) ⌝ }
@@ -222,12 +221,22 @@ fn put_message(out: &mut [u8], strict: bool, packet: Packet, store: &[u8]) -> us
     let code = header.code;
     let token = packet.token;
     let payload = sent_payload(strict, code, packet.payload);
+    let count = packet.count;
+    let options = packet.options;
     let after_header = put_header(out, header, token.len as u8);
     let token_bytes = token.part(store);
-    let after_token = put_bytes(out, after_header, token_bytes);
-    let after_options = put_options(out, after_token, packet, store);
+    let mut next = put_bytes(out, after_header, token_bytes);
+    let mut before: u16 = 0;
+    let mut i = 0;
+    while i < count {
+        let record = options[i];
+        let value = record.value(store);
+        next = put_option(out, next, before, record.number, value);
+        before = record.number;
+        i = i + 1;
+    }
     let payload_bytes = payload.part(store);
-    put_payload(out, after_options, payload_bytes)
+    put_payload(out, next, payload_bytes)
 }
 
 // The header before a token of this length.
@@ -238,25 +247,6 @@ fn put_header(out: &mut [u8], header: Header, token_length: u8) -> usize
     let raw = header.to_raw(token_length);
     raw.serialize_into(out);
     4
-}
-
-// The options of a packet, each after the one before it.
-fn put_options(out: &mut [u8], at: usize, packet: Packet, store: &[u8]) -> usize
-    requires { ⌜ (badPacket (length (now store)) packet ≡ false) × (at + length (optionsLayout 0 (map (optionOf (now store)) (recordsOf packet))) ≤ length (now out)) ⌝ }
-    ensures { λ r. ⌜ Put (now (out .entry)) at (optionsLayout 0 (map (optionOf (now (store .entry))) (recordsOf packet))) r (now (out .exit)) ⌝ }
-{
-    let count = packet.count;
-    let mut before: u16 = 0;
-    let mut next = at;
-    let mut i = 0;
-    while i < count {
-        let record = packet.options[i];
-        let value = record.value(store);
-        next = put_option(out, next, before, record.number, value);
-        before = record.number;
-        i = i + 1;
-    }
-    next
 }
 
 // An option after one of the number `before`.

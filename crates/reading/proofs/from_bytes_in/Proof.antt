@@ -1,67 +1,214 @@
-use Rattle.reading.proofs.Within.{Given, on-given}
-use Rattle.reading.specs.Reading.{reading}
-use Rattle.header.specs.declared.HeaderRaw.{HeaderRaw}
-use Rattle.header.specs.Header.{rawIn, rawRead}
-use Rattle.refusal.specs.Answer.{given}
-use Rattle.rfc.proofs.Choice.{on-lt}
-use borrow.Author.Tests.{lt-ltb, le-ltb}
-use denote.Ref.{now}
-use lib.ListN.{length}
-use mathlib.Core.List.{List}
-use Prim.Native.Nat.{_≤_, ℕ}
-use mathlib.Core.Path.{_≡_, sym, ap, _∙_}
+-- `from_bytes_in`: a good header leaves the answer to the options, and the walk over them keeps it.
+use Prim.Native.Nat.{ℕ, _+_, _-_}
+use mathlib.Core.Path.{_≡_, sym, ap, subst, _∙_}
+use native.Mathlib.Omega.{arith}
 use borrow.Author.Needs.{needs}
+use denote.Ref.{now}
+use Rattle.rfc.proofs.Part.{bytes-of}
+use Rattle.refusal.specs.Answer.{Answer, given}
+use Rattle.header.specs.Header.{rawRead}
+use Rattle.packet.specs.declared.Packet.{Packet}
+use Rattle.reading.specs.Answers.{Opened, foundOf}
+use Rattle.reading.specs.Option.{Place, Tail, options, onward}
+use Rattle.reading.specs.Reading.{readOf, reading, tokenOf, finished}
+use Rattle.reading.proofs.Within.{Inside, place-inside, on-given}
+use Rattle.reading.proofs.Walk as Walk
 use Rattle.reading.proofs.from_bytes_in.Statement.{statement}
 use Rattle.reading.proofs.from_bytes_in.Tie as tie
 
--- Bytes that start with a header are at least four.
-four : (s : List ℕ) (raw : HeaderRaw) → rawIn s ≡ given raw → 4 ≤ length s
-unfolding rawIn
-four s raw e = on-given (λ (_ : HeaderRaw). 4 ≤ length s) (rawIn s) raw (on-lt (Given (λ (_ : HeaderRaw). 4 ≤ length s)) (length s) 4 (λ h. tt) (λ h. h)) e
+abbrev Inv-loop : tie.InvT-loop
+Inv-loop strict buf raw token-length most records₀ count₀ number₀ idx₀ records count number idx = Walk.Walk most buf (4 + tokenOf raw) records count number idx
 
-raw-is : (c : tie.After-raw) → rawIn (now (c .before .before .before .before .before .args .buf)) ≡ given (c .raw .given .0 .0)
-raw-is c = sym (c .before .before .try-from .ensures) ∙ ap rawRead (c .raw .given .1)
+abbrev μ-loop : tie.MeasureT-loop
+μ-loop strict buf raw token-length most records₀ count₀ number₀ idx₀ records count number idx = 128 - count
 
-refused-requires : tie.Need-refused-requires
-refused-requires c κs = search needs
+-- The header that was read leaves the answer to the options.
+opened : (c : tie.After-raw Inv-loop μ-loop) → Opened (c .before .before .before .before .args .strict) (now (c .before .before .before .before .args .buf)) (reading (c .before .before .before .before .args .strict) (now (c .before .before .before .before .args .buf))) (given (c .raw .given .0 .0))
+opened c =
+    let a = c .before .before .before .before .args in
+    subst (Opened (a .strict) (now (a .buf)) (reading (a .strict) (now (a .buf)))) (ap rawRead (c .raw .given .1)) (c .before .before .opening .ensures)
 
-returns : tie.Need-returns
-unfolding reading
-returns c = rw (lt-ltb _ _ (c .before .if1 .taken)) (c .refused .ensures)
+-- Where the options' answer is known, so is the whole one.
+answer-is : (c : tie.After-place-at Inv-loop μ-loop) (a : Answer Tail)
+    → options (c .before .before .longest-value .result) (now (c .before .before .before .before .before .before .before .before .before .args .buf)) 128 0 (4 + tokenOf (c .before .before .before .before .before .raw .given .0 .0)) ≡ a
+    → readOf (onward a (finished (c .before .before .before .before .before .before .before .before .before .args .strict) (now (c .before .before .before .before .before .before .before .before .before .args .buf)) (c .before .before .before .before .before .raw .given .0 .0)))
+    ≡ readOf (reading (c .before .before .before .before .before .before .before .before .before .args .strict) (now (c .before .before .before .before .before .before .before .before .before .args .buf)))
+answer-is c a e =
+    let r = c .before .before .before .before .before in
+    let g = r .before .before .before .before .args in
+    let raw = r .raw .given .0 .0 in
+    ap (λ (t : Answer Tail). readOf (onward t (finished (g .strict) (now (g .buf)) raw))) (sym e)
+    ∙ (ap (λ (m : ℕ). readOf (onward (options m (now (g .buf)) 128 0 (4 + tokenOf raw)) (finished (g .strict) (now (g .buf)) raw))) (c .before .before .longest-value .ensures)
+    ∙ ap readOf (sym (opened r .is)))
 
-try-from-requires : tie.Need-try-from-requires
-try-from-requires c κs = search needs
+-- The place that was found is inside the datagram.
+inside : (c : tie.After-place-at Inv-loop μ-loop) (p : Place) → foundOf (c .place-at .result) ≡ given p → Inside (now (c .before .before .before .before .before .before .before .before .before .args .buf)) p
+inside c p e =
+    let k = c .before .before .before .before .before .before .before .before in
+    let s = now (k .before .args .buf) in
+    on-given (Inside s) (foundOf (c .place-at .result)) p
+    (rw (c .place-at .ensures) (place-inside (c .before .before .longest-value .result) s (c .before .loop .number) (c .before .loop .idx) (bytes-of s (λ i. omega (arith, k .shared-slice-known .given i))))) e
 
-enum-known-e : tie.Need-enum-known-e
+opening-requires : tie.Need-opening-requires Inv-loop μ-loop
+opening-requires c κs = search needs
+
+enum-known-e : tie.Need-enum-known-e Inv-loop μ-loop
 enum-known-e c = search needs
 
-refused-requires-2 : tie.Need-refused-requires-2
-refused-requires-2 c κs = search needs
+refused-requires : tie.Need-refused-requires Inv-loop μ-loop
+refused-requires c κs = search needs
 
-enum-known-raw : tie.Need-enum-known-raw
+returns : tie.Need-returns Inv-loop μ-loop
+returns c =
+    let o = c .before .before .before .before in
+    let a = o .before .before .args in
+    let h = subst (Opened (a .strict) (now (a .buf)) (reading (a .strict) (now (a .buf)))) (ap rawRead (c .before .before .e .given .1)) (o .opening .ensures) in
+    c .refused .ensures ∙ ap readOf (sym (h .is))
+
+enum-known-raw : tie.Need-enum-known-raw Inv-loop μ-loop
 enum-known-raw c = search needs
 
-after-header-requires : tie.Need-after-header-requires
-after-header-requires c κs = (four _ _ (raw-is (c .before)), c .before .before .before .before .if1 .left)
+longest-value-requires : tie.Need-longest-value-requires Inv-loop μ-loop
+longest-value-requires c κs = search needs
 
-returns-2 : tie.Need-returns-2
-unfolding reading
-returns-2 c = rw (le-ltb _ _ (c .before .before .before .before .before .if1 .left), sym (c .before .before .before .before .try-from .ensures) ∙ ap rawRead (c .before .before .e .given .1)) (c .refused2 .ensures)
+cast-idx : tie.Need-cast-idx Inv-loop μ-loop
+cast-idx c = search needs
 
-returns-3 : tie.Need-returns-3
-unfolding reading
-returns-3 c = rw (le-ltb _ _ (c .before .before .before .before .before .if1 .left), raw-is (c .before .before)) (c .after-header .ensures)
+add-idx : tie.Need-add-idx Inv-loop μ-loop
+add-idx c = search needs
+
+loop-holds : tie.Need-loop-holds Inv-loop μ-loop
+loop-holds c = Walk.start _ _ _ (opened (c .before .before .before) .roomy .0)
+
+place-at-requires : tie.Need-place-at-requires Inv-loop μ-loop
+place-at-requires c κs = (c .loop .inv .inside, opened (c .before .before .before .before) .roomy .1)
+
+enum-known-e-2 : tie.Need-enum-known-e-2 Inv-loop μ-loop
+enum-known-e-2 c = search needs
+
+refused-requires-2 : tie.Need-refused-requires-2 Inv-loop μ-loop
+refused-requires-2 c κs = search needs
+
+returns-2 : tie.Need-returns-2 Inv-loop μ-loop
+returns-2 c =
+    let p = c .before .before .before .before in
+    let e = sym (p .place-at .ensures) ∙ ap foundOf (c .before .before .e2 .given .1) in
+    c .refused2 .ensures ∙ answer-is p _ (Walk.refuses _ _ _ _ _ _ _ (p .before .loop .inv) _ e)
+
+enum-known-marked : tie.Need-enum-known-marked Inv-loop μ-loop
+enum-known-marked c = search needs
+
+marker-alone-requires : tie.Need-marker-alone-requires Inv-loop μ-loop
+marker-alone-requires c κs = search needs
+
+refused-requires-3 : tie.Need-refused-requires-3 Inv-loop μ-loop
+refused-requires-3 c κs = search needs
+
+returns-3 : tie.Need-returns-3 Inv-loop μ-loop
+returns-3 c =
+    let m = c .before .before .before .before in
+    let p = m .before .before in
+    let r = p .before .before .before .before .before in
+    let a = r .before .before .before .before .args in
+    let e = sym (p .place-at .ensures) ∙ ap foundOf (m .marked .given .1) in
+    c .refused3 .ensures
+    ∙ (ap readOf (sym (Walk.finished-alone (a .strict) (now (a .buf)) (r .raw .given .0 .0) _ (sym (c .before .before .marker-alone .ensures) ∙ c .before .if1 .taken)))
+    ∙ answer-is p _ (Walk.ends _ _ _ _ _ _ _ (p .before .loop .inv) _ _ e))
+
+packet-of-requires : tie.Need-packet-of-requires Inv-loop μ-loop
+packet-of-requires c κs =
+    let m = c .before .before .before in
+    let p = m .before .before in
+    (inside p _ (ap foundOf (m .marked .given .1)), opened (p .before .before .before .before .before) .roomy .1)
+
+returns-4 : tie.Need-returns-4 Inv-loop μ-loop
+returns-4 c =
+    let m = c .before .before .before .before in
+    let p = m .before .before in
+    let r = p .before .before .before .before .before in
+    let a = r .before .before .before .before .args in
+    let e = sym (p .place-at .ensures) ∙ ap foundOf (m .marked .given .1) in
+    ap (λ (q : Packet). readOf (given q)) (c .packet-of .ensures ∙ Walk.packet-is _ _ _ _ _ _ _ (p .before .loop .inv) (r .raw .given .0 .0) (m .marked .given .0 .0) _)
+    ∙ (ap readOf (sym (Walk.finished-well (a .strict) (now (a .buf)) (r .raw .given .0 .0) _ (sym (c .before .before .marker-alone .ensures) ∙ c .before .if1 .left)))
+    ∙ answer-is p _ (Walk.ends _ _ _ _ _ _ _ (p .before .loop .inv) _ _ e))
+
+enum-known-r : tie.Need-enum-known-r Inv-loop μ-loop
+enum-known-r c = search needs
+
+refused-requires-4 : tie.Need-refused-requires-4 Inv-loop μ-loop
+refused-requires-4 c κs = search needs
+
+returns-5 : tie.Need-returns-5 Inv-loop μ-loop
+returns-5 c =
+    let r = c .before .before .before in
+    let p = r .before .before in
+    let e = sym (p .place-at .ensures) ∙ ap foundOf (r .r .given .1) in
+    c .refused4 .ensures ∙ answer-is p _ (Walk.overflows _ _ _ _ _ _ _ (p .before .loop .inv) _ e (c .before .if2 .taken))
+
+mul-records : tie.Need-mul-records Inv-loop μ-loop
+mul-records c = search needs
+
+array-set-from-records : tie.Need-array-set-from-records Inv-loop μ-loop
+array-set-from-records c = search needs
+
+add-count : tie.Need-add-count Inv-loop μ-loop
+add-count c = search needs
+
+cast-idx-2 : tie.Need-cast-idx-2 Inv-loop μ-loop
+cast-idx-2 c = search needs
+
+cast-idx-3 : tie.Need-cast-idx-3 Inv-loop μ-loop
+cast-idx-3 c = search needs
+
+add-idx-2 : tie.Need-add-idx-2 Inv-loop μ-loop
+add-idx-2 c =
+    let r = c .before .before .before .before in
+    let p = r .before .before in
+    omega (arith, inside p _ (ap foundOf (r .r .given .1)), opened (p .before .before .before .before .before) .roomy .1)
+
+loop-less : tie.Need-loop-less Inv-loop μ-loop
+loop-less c = search needs
+
+loop-again : tie.Need-loop-again Inv-loop μ-loop
+loop-again c =
+    let r = c .before .before .before .before in
+    let p = r .before .before in
+    let e = sym (p .place-at .ensures) ∙ ap foundOf (r .r .given .1) in
+    Walk.turn _ _ _ _ _ _ _ (p .before .loop .inv) _ e (c .before .before .if2 .left) (inside p _ (ap foundOf (r .r .given .1)))
 
 pub from-bytes-in-spec : {M : Type 1} → statement M
 from-bytes-in-spec =
     tie.close
     (tie.spec
+    Inv-loop
+    μ-loop
+    opening-requires
+    enum-known-e
     refused-requires
     returns
-    try-from-requires
-    enum-known-e
-    refused-requires-2
     enum-known-raw
-    after-header-requires
+    longest-value-requires
+    cast-idx
+    add-idx
+    loop-holds
+    place-at-requires
+    enum-known-e-2
+    refused-requires-2
     returns-2
-    returns-3)
+    enum-known-marked
+    marker-alone-requires
+    refused-requires-3
+    returns-3
+    packet-of-requires
+    returns-4
+    enum-known-r
+    refused-requires-4
+    returns-5
+    mul-records
+    array-set-from-records
+    add-count
+    cast-idx-2
+    cast-idx-3
+    add-idx-2
+    loop-less
+    loop-again)

@@ -3,7 +3,7 @@ use Prim.Native.Nat.{_+_, _-_, _≤_}
 use mathlib.Core.Path.{_≡_, sym, _∙_}
 use mathlib.Core.List.{_∷_}
 use native.Mathlib.Omega.{arith}
-use lib.ListN.{length, drop, getD, length-take}
+use lib.ListN.{length, drop, take, getD, length-take}
 use borrow.Author.Needs.{needs}
 use borrow.Author.Tests.{lt-ltb, le-ltb}
 use Rattle.packet.specs.Packet.{none, recordsOf}
@@ -15,19 +15,19 @@ use Rattle.packet.proofs.Packet.judged.Tie as tie
 use Rattle.packet.proofs.Held.{full}
 
 abbrev Inv-loop : tie.InvT-loop
-Inv-loop store-len self count before₀ size₀ i₀ before size i = ((i ≤ self .count) × (self .count ≤ 128) × (length (self .options) ≡ 128)) × Judging store-len (recordsOf self) before size i
+Inv-loop store-len count options before₀ size₀ i₀ before size i = ((i ≤ count) × (count ≤ 128) × (length options ≡ 128)) × Judging store-len (take count options) before size i
 
 abbrev μ-loop : tie.MeasureT-loop
-μ-loop store-len self count before₀ size₀ i₀ before size i = self .count - i
+μ-loop store-len count options before₀ size₀ i₀ before size i = count - i
 
 -- The records that are left begin with the record at the index.
-next : (c : tie.After-record Inv-loop μ-loop) → drop (c .before .before .loop .i) (recordsOf (c .before .before .before .before .before .before .before .before .before .args .t1)) ≡ getD (c .before .before .before .before .before .before .before .before .before .args .t1 .options) (c .before .before .loop .i) none ∷ drop (c .before .before .loop .i + 1) (recordsOf (c .before .before .before .before .before .before .before .before .before .args .t1))
+next : (c : tie.After-record Inv-loop μ-loop) → drop (c .before .before .loop .i) (recordsOf (c .before .before .before .before .before .before .before .before .before .args .self)) ≡ getD (c .before .before .before .before .before .before .before .before .before .args .self .options) (c .before .before .loop .i) none ∷ drop (c .before .before .loop .i + 1) (recordsOf (c .before .before .before .before .before .before .before .before .before .args .self))
 next c =
-    let p = c .before .before .before .before .before .before .before .before .before .args .t1 in
+    let p = c .before .before .before .before .before .before .before .before .before .args .self in
     left (p .options) (p .count) (c .before .before .loop .i) (omega (arith, length-take (p .count) (p .options)))
 
 -- A turn that finds nothing bad.
-again : (c : tie.After-size-after Inv-loop μ-loop) → Judging (c .before .before .before .before .before .before .before .before .before .before .before .before .before .before .args .«store-len») (recordsOf (c .before .before .before .before .before .before .before .before .before .before .before .before .before .before .args .t1)) (getD (c .before .before .before .before .before .before .before .before .before .before .before .before .before .before .args .t1 .options) (c .before .before .before .before .before .before .before .loop .i) none .number) (c .before .before .before .before .before .before .before .loop .size + c .size-after .result) (c .before .before .before .before .before .before .before .loop .i + 1)
+again : (c : tie.After-size-after Inv-loop μ-loop) → Judging (c .before .before .before .before .before .before .before .before .before .before .before .before .before .before .args .«store-len») (recordsOf (c .before .before .before .before .before .before .before .before .before .before .before .before .before .before .args .self)) (getD (c .before .before .before .before .before .before .before .before .before .before .before .before .before .before .args .self .options) (c .before .before .before .before .before .before .before .loop .i) none .number) (c .before .before .before .before .before .before .before .loop .size + c .size-after .result) (c .before .before .before .before .before .before .before .loop .i + 1)
 again c =
     let w = c .before .before .before .before .before .before .before .loop .inv .1 in
     rw (c .size-after .ensures)
@@ -50,14 +50,14 @@ returns-3 c = judged-bad _ _ (bad-ranges _ _ (sym (c .before .bad-ranges .ensure
 loop-holds : tie.Need-loop-holds Inv-loop μ-loop
 loop-holds c =
     let st = c .before .before .before .before .before .before in
-    let n : length (st .args .t1 .options) ≡ 128 = full (st .args .t1) (st .good .0) in
-    (omega arith, start (st .args .«store-len») (recordsOf (st .args .t1)))
+    let n : length (st .args .self .options) ≡ 128 = full (st .args .self) (st .good .0) in
+    (omega arith, start (st .args .«store-len») (recordsOf (st .args .self)))
 
 mul-record : tie.Need-mul-record Inv-loop μ-loop
 mul-record c = omega arith
 
-element-copy-out-record : tie.Need-element-copy-out-record Inv-loop μ-loop
-element-copy-out-record c = omega arith
+array-copy-out-record : tie.Need-array-copy-out-record Inv-loop μ-loop
+array-copy-out-record c = omega arith
 
 returns-4 : tie.Need-returns-4 Inv-loop μ-loop
 returns-4 c = judged-bad _ _ (bad-falling _ _ (finds-fall _ _ _ _ _ (c .before .before .before .before .loop .inv .1) _ (next (c .before .before)) (c .if4 .taken)))
@@ -86,11 +86,11 @@ loop-again c = (omega arith, again c)
 returns-6 : tie.Need-returns-6 Inv-loop μ-loop
 unfolding badPacket
 returns-6 c =
-    let p = c .before .before .before .before .before .before .before .before .args .t1 in
+    let p = c .before .before .before .before .before .before .before .before .args .self in
     let w = c .before .loop .inv .1 in
     let e = none-left (recordsOf p) (c .before .loop .i) (omega (arith, length-take (p .count) (p .options))) in
     judged-good _ _ _
-    (rw (le-ltb _ _ (c .before .before .before .before .before .before .before .if1 .left), le-ltb _ _ (c .before .before .before .before .before .before .if2 .left), no-fall _ _ _ _ _ w e, sym (c .before .before .before .bad-ranges .ensures) ∙ c .before .before .if3 .left, no-value _ _ _ _ _ w e))
+    (rw (le-ltb _ _ (c .before .before .before .before .before .if1 .left), le-ltb _ _ (c .before .before .before .before .if2 .left), no-fall _ _ _ _ _ w e, sym (c .before .before .before .bad-ranges .ensures) ∙ c .before .before .if3 .left, no-value _ _ _ _ _ w e))
     (whole _ _ _ _ _ w e)
 
 pub judged-spec : {M : Type 1} → statement M
@@ -105,7 +105,7 @@ judged-spec =
     returns-3
     loop-holds
     mul-record
-    element-copy-out-record
+    array-copy-out-record
     returns-4
     bad-value-requires
     returns-5

@@ -1,0 +1,25 @@
+-- `packet_of`: each number fits its field.
+use borrow.Author.Needs.{needs}
+use Rattle.reading.proofs.packet_of.Statement.{statement}
+use Rattle.reading.proofs.packet_of.Tie as tie
+
+from-raw-requires : tie.Need-from-raw-requires
+from-raw-requires c κs = search needs
+
+cast-t8 : tie.Need-cast-t8
+cast-t8 c = search needs
+
+cast-t10 : tie.Need-cast-t10
+cast-t10 c = search needs
+
+sub-t11 : tie.Need-sub-t11
+sub-t11 c = search needs
+
+cast-t12 : tie.Need-cast-t12
+cast-t12 c = search needs
+
+returns : tie.Need-returns
+returns c = rw (c .before .from-raw .ensures)
+
+pub packet-of-spec : {M : Type 1} → statement M
+packet-of-spec = tie.close (tie.spec from-raw-requires cast-t8 cast-t10 sub-t11 cast-t12 returns)
