@@ -37,6 +37,7 @@ fn answer_request(line: &[u8]) -> Option<String> {
         b"uint-read" => uint_read(words),
         b"uint-write" => uint_write(words),
         b"text-read" => text_read(words),
+        b"text-write" => text_write(words),
         b"header-read" => header_read(words),
         b"code-read" => code_read(words),
         b"code-write" => code_write(words),
@@ -310,6 +311,13 @@ fn text_read(mut words: Words) -> Option<String> {
     words.end()?;
     let text = OptionValueString::try_from(value);
     Some(text.map_or(refused(15), |text| format!("text {}", hex(&Vec::from(text)))))
+}
+
+fn text_write(mut words: Words) -> Option<String> {
+    let (room, value) = (words.number(MOST_ROOM)?, words.bytes()?);
+    words.end()?;
+    let text = OptionValueString::try_from(value);
+    Some(text.map_or(OUTSIDE.into(), |text| written(&Vec::from(text), room)))
 }
 
 // ---- header

@@ -391,6 +391,9 @@ impl Varied {
         ];
         let count = self.random.below(12);
         let text: String = (0..count).map(|_| self.random.of(&EDGES)).collect();
+        if self.random.one_in(3) {
+            return format!("text-write {} {}", self.random.near(&[text.len()]), hex(text.as_bytes()));
+        }
         let mut bytes = text.into_bytes();
         if self.random.one_in(2) && !bytes.is_empty() {
             let at = self.random.below(bytes.len());

@@ -102,6 +102,10 @@ fn answer_value(
     if next != NOWHERE {
         return values::text_read(line, next, store, out, place);
     }
+    let next = word(line, 0, b"text-write");
+    if next != NOWHERE {
+        return values::text_write(line, next, store, room, out, place);
+    }
     let next = word(line, 0, b"header-read");
     if next != NOWHERE {
         return codes::header_read(line, next, store, out, place);

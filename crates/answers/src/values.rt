@@ -110,3 +110,26 @@ pub fn text_read(line: &[u8], at: usize, store: &mut [u8], out: &mut [u8], place
         }
     }
 }
+
+// text-write ROOM HEX
+pub fn text_write(
+    line: &[u8],
+    at: usize,
+    store: &mut [u8],
+    room: &mut [u8],
+    out: &mut [u8],
+    place: usize,
+) -> usize {
+    let lent = number_at(line, at, b' ', 71000);
+    let value = bytes_at(line, lent.next, b' ', store, 0);
+    let size = lent.value as usize;
+    if !finished(line, value.next) {
+        return no_request(out, place);
+    }
+    if room.len() < size {
+        return no_request(out, place);
+    }
+    let room = &mut room[0..size];
+    let written = option_value::option_from_text(part(store, 0, value.end), room);
+    put_written(out, place, written, room)
+}
