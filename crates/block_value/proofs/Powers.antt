@@ -6,7 +6,7 @@ use native.Mathlib.Nat.{pow-suc, mod-lt}
 use native.Mathlib.Omega.{arith}
 use lib.Dec.{lit≤}
 use lib.Pow.{pow-pos, pow-mono, split}
-use Rattle.rfc.proofs.Choice.{on-le}
+use Rattle.ground.proofs.Choice.{on-le}
 use Rattle.block_value.specs.Size.{Floor, powerUpTo, exponentOf}
 
 -- A number that is halved to 1.

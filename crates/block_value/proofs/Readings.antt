@@ -5,7 +5,7 @@ use mathlib.Core.Bool.{Bool, true, false}
 use mathlib.Core.List.{List}
 use lib.Dec.{eqb, ltb}
 use lib.ListN.{length}
-use Rattle.rfc.specs.Choice.{pick}
+use Rattle.ground.specs.Choice.{pick}
 use Rattle.rfc.specs.Uint.{number}
 use Rattle.rfc.specs.Block.{Block, blockOf}
 use Rattle.refusal.specs.Answer.{Answer, given, refused}

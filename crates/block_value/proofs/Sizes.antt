@@ -8,10 +8,10 @@ use native.Mathlib.Omega.{arith}
 use lib.Dec.{T, eqb, ltb, lit<}
 use types.Run.{OneOf}
 use borrow.Author.Tests.{eq-eqb, ne-eqb}
-use Rattle.rfc.specs.Choice.{either}
-use Rattle.rfc.specs.Table.{listed}
+use Rattle.ground.specs.Choice.{either}
+use Rattle.ground.specs.Table.{listed}
 use Rattle.rfc.specs.Block.{size}
-use Rattle.rfc.proofs.Choice.{on-eq}
+use Rattle.ground.proofs.Choice.{on-eq}
 use Rattle.block_value.specs.Size.{exponentOf, powerUpTo}
 use Rattle.block_value.specs.Strict.{strictSizes}
 

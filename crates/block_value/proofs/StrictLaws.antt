@@ -8,13 +8,14 @@ use native.Mathlib.Omega.{arith}
 use lib.ListN.{length, take}
 use lib.Seq.{take-append-seam}
 use borrow.Author.Tests.{le-ltb, ne-eqb}
-use Rattle.rfc.specs.Part.{Bytes}
-use Rattle.rfc.specs.Table.{listed}
+use Rattle.ground.specs.Part.{Bytes}
+use Rattle.ground.specs.Table.{listed}
 use Rattle.rfc.specs.Uint.{number, uint, withoutZeros}
 use Rattle.rfc.specs.Block.{Block, Valid, blockNumber, blockOf, blockBytes}
-use Rattle.rfc.proofs.Choice.{on, on-lt, on-eq}
+use Rattle.ground.proofs.Choice.{on, on-lt, on-eq}
 use Rattle.rfc.proofs.Uint.{written-read, read-written}
 use Rattle.rfc.proofs.Block.{block-number, number-block, block-below, block-read}
+use Rattle.ground.proofs.Part.{put-front}
 use Rattle.refusal.specs.Answer.{Answer, given, refused, after}
 use Rattle.option_value.proofs.Uints.{read-within, read-room, written-then-read}
 use Rattle.block_value.specs.Size.{sizeUpTo, exponentOf}
@@ -37,26 +38,27 @@ unfolding blockBytes
 valid-read b v = rw (strict-reading, written-then-read 3 (blockNumber b) (omega arith) (block-below b v)) (of-block b v)
 
 -- What is written is a valid block, and all of its bytes.
-pub record Sent (b : Block) (n : ℕ) : Type 0 where
+pub record Sent (b : Block) (room n : ℕ) : Type 0 where
   pub valid : Valid b
   pub count : n ≡ length (blockBytes b)
+  pub fits : length (blockBytes b) ≤ room
 
-pub sent : (b : Block) (room n : ℕ) → strictWriting room b ≡ given n → Sent b n
+pub sent : (b : Block) (room n : ℕ) → strictWriting room b ≡ given n → Sent b room n
 unfolding strictWriting
 sent b room n =
-    on-lt (λ (a : Answer ℕ). a ≡ given n → Sent b n) 6 (b .szx) (λ _ e. not-given _ _ e)
+    on-lt (λ (a : Answer ℕ). a ≡ given n → Sent b room n) 6 (b .szx) (λ _ e. not-given _ _ e)
     (λ s.
-    on-lt (λ (a : Answer ℕ). a ≡ given n → Sent b n) 1048575 (b .num) (λ _ e. not-given _ _ e)
+    on-lt (λ (a : Answer ℕ). a ≡ given n → Sent b room n) 1048575 (b .num) (λ _ e. not-given _ _ e)
     (λ m.
-    on-lt (λ (a : Answer ℕ). a ≡ given n → Sent b n) room (length (blockBytes b)) (λ _ e. not-given _ _ e)
-    (λ _ e. record { valid = record { num = m; szx = s }; count = sym (one-given _ _ e) })))
+    on-lt (λ (a : Answer ℕ). a ≡ given n → Sent b room n) room (length (blockBytes b)) (λ _ e. not-given _ _ e)
+    (λ h e. record { valid = record { num = m; szx = s }; count = sym (one-given _ _ e); fits = h })))
 
 -- Every block that is written is read back as itself from the output.
 pub written-back : (b : Block) (old : List ℕ) (n : ℕ) → strictWriting (length old) b ≡ given n →
-    strictReading (take n (after (strictWriting (length old) b) (blockBytes b) old)) ≡ given b
+    strictReading (take n (after (strictWriting (length old) b) 0 (blockBytes b) old)) ≡ given b
 written-back b old n e =
-    let s : Sent b n = sent b (length old) n e in
-    rw (e, s .count, take-append-seam (blockBytes b)) (valid-read b (s .valid))
+    let s : Sent b (length old) n = sent b (length old) n e in
+    rw (e, s .count, put-front old (blockBytes b) (s .fits), take-append-seam (blockBytes b)) (valid-read b (s .valid))
 
 -- What a strict reading gives: a valid block, whose bytes are the value without its leading zeros.
 pub record Read (bs : List ℕ) (b : Block) : Type 0 where

@@ -4,7 +4,7 @@ use mathlib.Core.Bool.{Bool}
 use mathlib.Core.List.{List}
 use lib.Dec.{eqb, ltb}
 use lib.ListN.{length}
-use Rattle.rfc.specs.Choice.{pick, either}
+use Rattle.ground.specs.Choice.{pick, either}
 use Rattle.rfc.specs.Uint.{number, uint}
 use Rattle.rfc.specs.Block.{Block, blockNumber, blockOf}
 use Rattle.refusal.specs.Answer.{Answer, given, refused, fitted}

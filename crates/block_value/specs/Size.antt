@@ -1,7 +1,7 @@
 -- Sizes of blocks and their exponents.
 use Prim.Native.Nat.{ℕ, zero, suc, _+_, _-_, _^_, _<_, _≤_}
 use lib.Dec.{leb, ltb}
-use Rattle.rfc.specs.Choice.{pick}
+use Rattle.ground.specs.Choice.{pick}
 use Rattle.rfc.specs.Block.{size}
 use Rattle.refusal.specs.Answer.{Answer, given, refused}
 

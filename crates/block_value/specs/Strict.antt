@@ -4,8 +4,8 @@ use mathlib.Core.Bool.{Bool}
 use mathlib.Core.List.{List, [], _∷_}
 use lib.Dec.{eqb, ltb}
 use lib.ListN.{length}
-use Rattle.rfc.specs.Choice.{pick}
-use Rattle.rfc.specs.Table.{listed}
+use Rattle.ground.specs.Choice.{pick}
+use Rattle.ground.specs.Table.{listed}
 use Rattle.rfc.specs.Uint.{number}
 use Rattle.rfc.specs.Block.{Block, blockOf, blockBytes}
 use Rattle.refusal.specs.Answer.{Answer, given, refused, fitted}

@@ -9,7 +9,7 @@ ghost use mathlib.Core.Path.{_≡_};
 ghost use Prim.Native.Nat.{_<_};
 ghost use lib.ListN.{length};
 ghost use Rattle.rfc.specs.Block.{blockNumber, blockOf, blockBytes};
-ghost use Rattle.rfc.specs.Table.{listed};
+ghost use Rattle.ground.specs.Table.{listed};
 ghost use Rattle.refusal.specs.Answer.{written, after};
 ghost use Rattle.block_value.specs.Answers.{meant, built, sized};
 ghost use Rattle.block_value.specs.Size.{Floor, exponentOf, sizeUpTo};
@@ -69,7 +69,7 @@ impl BlockValue {
     // Writes the plain value, which has 12 bits of the number and 3 of the exponent.
     pub fn into_bytes(self, out: &mut [u8]) -> Written
         ensures { λ r. ⌜ written r ≡ plainWriting (length (now (out .entry))) (meant self) ⌝ }
-        ensures { λ r. ⌜ now (out .exit) ≡ after (plainWriting (length (now (out .entry))) (meant self)) (plainBytes (meant self)) (now (out .entry)) ⌝ }
+        ensures { λ r. ⌜ now (out .exit) ≡ after (plainWriting (length (now (out .entry))) (meant self)) 0 (plainBytes (meant self)) (now (out .entry)) ⌝ }
     {
         let kept = BlockValue {
             num: self.num % 4096,
@@ -116,7 +116,7 @@ impl BlockValue {
     // Writes the strict value.
     pub fn into_bytes_strict(self, out: &mut [u8]) -> Written
         ensures { λ r. ⌜ written r ≡ strictWriting (length (now (out .entry))) (meant self) ⌝ }
-        ensures { λ r. ⌜ now (out .exit) ≡ after (strictWriting (length (now (out .entry))) (meant self)) (blockBytes (meant self)) (now (out .entry)) ⌝ }
+        ensures { λ r. ⌜ now (out .exit) ≡ after (strictWriting (length (now (out .entry))) (meant self)) 0 (blockBytes (meant self)) (now (out .entry)) ⌝ }
     {
         if 6 < self.size_exponent {
             return Written::Refused(Refusal::BadBlockSize);

@@ -1,20 +1,14 @@
 -- Edits computed by the definitions, so that a slip in a definition shows.
 use Prim.Native.Nat.{ℕ}
 use mathlib.Core.Path.{_≡_, refl}
-use mathlib.Core.List.{List, [], _∷_, _++_}
-use lib.ListN.{length, replicate}
-use Rattle.rfc.specs.Uint.{uint}
+use mathlib.Core.List.{[], _∷_}
+use lib.ListN.{replicate}
 use Rattle.refusal.specs.Answer.{given, refused}
-use Rattle.option_value.specs.Uint.{readUint}
-use Rattle.tables.specs.Numbers.{contentFormats}
-use Rattle.packet.specs.Packet.{none, newPacket, nowhere, bytesOf}
-use Rattle.packet.specs.declared.Packet.{Packet}
+use Rattle.packet.specs.Packet.{none, newPacket, nowhere}
 use Rattle.packet.specs.declared.OptionRecord.{OptionRecord}
 use Rattle.header.specs.Header.{newHeader}
-use Rattle.editing.specs.Edit.{withRecords, inserted, removed, replaced, recordOf, rangesIn, added, optionSet, tokenSet}
-use Rattle.editing.specs.Setters.{formatSet, observeSet, roomIn, stored}
-use Rattle.editing.specs.Getters.{formatIn, observeIn, number}
-use Rattle.editing.specs.declared.ContentFormat.the-variants.{Format, None}
+use Rattle.splicing.specs.Splice.{withRecords, rangesIn}
+use Rattle.editing.specs.Edit.{inserted, removed, replaced, added, optionSet, tokenSet}
 
 at : ℕ → ℕ → OptionRecord
 at n start = record { number = n; spare = 0; start = start; len = 1 }
@@ -26,33 +20,13 @@ orders : (inserted 11 (at 11 9 ∷ []) (at 3 0 ∷ at 11 1 ∷ at 12 2 ∷ []) �
 unfolding at
 orders = (refl, refl, refl)
 
--- A packet of so many records of number 11, before others.
-many : ℕ → List OptionRecord → Packet
-many n rs = withRecords newPacket (replicate n (at 11 0) ++ rs)
-
--- Observe at 128 records: with one of them Observe it is replaced, with none it is 6, and that before 12.
-full : (observeSet (0 ∷ []) 9 (withRecords newPacket (at 6 0 ∷ replicate 127 (at 11 0))) 5 ≡ refused 12)
-    × (observeSet (0 ∷ []) 0 (withRecords newPacket (at 6 0 ∷ replicate 127 (at 11 0))) 5 ≡ given (withRecords newPacket (at 6 0 ∷ replicate 127 (at 11 0))))
-    × (observeSet (0 ∷ []) 9 (many 128 []) 5 ≡ refused 6)
-    × (observeSet (0 ∷ []) 9 (many 1 (at 6 0 ∷ [])) 5 ≡ refused 11)
-unfolding observeSet optionSet newPacket uint many at
+-- A 129th record gives 6, and falling numbers 11 before that; of 128, one can still be replaced by one.
+full : (added (withRecords newPacket (replicate 128 (at 11 0))) 11 (record { start = 0; len = 1 }) ≡ refused 6)
+    × (optionSet (withRecords newPacket (replicate 127 (at 11 0))) 12 (rangesIn (0 ∷ 1 ∷ 0 ∷ 1 ∷ [])) ≡ refused 6)
+    × (added (withRecords newPacket (at 12 0 ∷ replicate 127 (at 11 0))) 11 (record { start = 0; len = 1 }) ≡ refused 11)
+    × (optionSet (withRecords newPacket (at 6 0 ∷ replicate 127 (at 11 0))) 6 (rangesIn (7 ∷ 1 ∷ [])) ≡ given (withRecords newPacket (at 6 7 ∷ replicate 127 (at 11 0))))
+unfolding added optionSet newPacket at
 full = (refl, refl, refl, refl)
-
--- A zero writes no byte, and its start still counts: the store's length is fine, one more is 12.
-zeros : (roomIn (7 ∷ []) 1 (uint 2 0) (tt {0}) ≡ given tt) × (roomIn (7 ∷ []) 2 (uint 2 0) (tt {0}) ≡ refused 12)
-unfolding uint
-zeros = (refl, refl)
-
--- A content format is added: after 60 and then 50 it reads 60. An unlisted one and an over-long one read as none, Observe's 0 as a number.
-formats : (formatSet (60 ∷ 0 ∷ []) 1 (withRecords newPacket (at 12 0 ∷ [])) 50 ≡ given (withRecords newPacket (at 12 0 ∷ at 12 1 ∷ [])))
-    × (stored (given (tt {0})) 1 (uint 2 50) (60 ∷ 0 ∷ []) ≡ (60 ∷ 50 ∷ []))
-    × (formatIn (60 ∷ 50 ∷ []) (withRecords newPacket (at 12 0 ∷ at 12 1 ∷ [])) ≡ Format 60)
-    × (formatIn (1 ∷ []) (withRecords newPacket (at 12 0 ∷ [])) ≡ None)
-    × (formatIn (0 ∷ 0 ∷ 0 ∷ []) (withRecords newPacket (recordOf 12 (record { start = 0; len = 3 }) ∷ [])) ≡ None)
-    × (observeIn [] (withRecords newPacket (recordOf 6 (record { start = 0; len = 0 }) ∷ [])) ≡ given (number 0))
-    × (observeIn (0 ∷ 0 ∷ 0 ∷ 0 ∷ 0 ∷ []) (withRecords newPacket (recordOf 6 (record { start = 0; len = 5 }) ∷ [])) ≡ refused 13)
-unfolding formatSet added formatIn observeIn newPacket readUint bytesOf contentFormats uint at
-formats = (refl, refl, refl, refl, refl, refl, refl)
 
 -- A token of 15 bytes is the longest.
 tokens : (tokenSet newPacket (record { start = 0; len = 16 }) ≡ refused 11) × (tokenSet newPacket (record { start = 0; len = 15 }) ≡ given (record { header = newHeader; token = record { start = 0; len = 15 }; count = 0; options = replicate 128 none; payload = nowhere }))

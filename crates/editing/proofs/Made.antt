@@ -1,53 +1,48 @@
 -- What an edit that is done has made: the packet of a list of records, for which there was room.
-use Prim.Native.Nat.{ℕ, suc, _+_, _-_, _≤_}
-use mathlib.Core.Path.{_≡_, refl, ap, _∙_}
-use mathlib.Core.Bool.{false}
+use Prim.Native.Nat.{ℕ, suc, _-_, _≤_}
+use mathlib.Core.Path.{_≡_, refl, sym, ap, _∙_}
+use mathlib.Core.Bool.{Bool, true, false}
 use mathlib.Core.List.{List, [], _∷_, map}
 use native.Mathlib.Omega.{arith}
-use lib.ListN.{length, take, replicate, length-append, length-take, length-replicate}
+use lib.ListN.{length, take, replicate, length-append, length-replicate}
 use lib.Seq.{take-append-seam}
 use borrow.Author.Tests.{le-ltb}
-use Rattle.rfc.specs.Uint.{uint}
-use Rattle.rfc.proofs.Choice.{on, on-lt, on-eq}
+use Rattle.ground.specs.Choice.{pick}
+use Rattle.ground.proofs.Choice.{on, on-lt, on-eq}
 use Rattle.refusal.specs.Answer.{Answer, given, refused}
+use Rattle.refusal.proofs.Answers.{not-refused}
+use Rattle.packet.specs.Limits.{maxOptions}
 use Rattle.packet.specs.Packet.{none, recordsOf}
 use Rattle.packet.specs.declared.Packet.{Packet}
 use Rattle.packet.specs.declared.OptionRecord.{OptionRecord}
 use Rattle.packet.specs.declared.Range.{Range}
-use Rattle.packet.specs.Judge.{falling, misordered}
-use Rattle.editing.specs.Edit.{packetWith, withRecords, orderly, roomy, inserted, removed, replaced, recordOf, tokenSet, payloadSet, added, optionSet, cleared, clearedAll}
-use Rattle.editing.specs.Setters.{withRoom, storing, rangeOf, formatSet, observeSet}
-use Rattle.editing.proofs.Records.{all-of, falling-removed, falling-inserted}
-use Rattle.editing.proofs.Walk.{in-order}
+use Rattle.judging.specs.Judge.{falling, misordered}
+use Rattle.splicing.specs.Splice.{packetWith, withRecords, roomy, recordOf}
+use Rattle.editing.specs.Edit.{orderly, inserted, removed, replaced, tokenSet, payloadSet, added, optionSet, cleared, clearedAll}
+use Rattle.editing.proofs.Records.{all-of, falling-removed, falling-inserted, inserted-nothing}
+use Rattle.judging.proofs.Order.{in-order}
+use Rattle.editing.proofs.Taken.{taken-few}
 
 -- The packet `q` is `p` with this token, these records and this payload; the edit took `p`, and there was room.
 pub record Made (p : Packet) (token : Range) (rs : List OptionRecord) (payload : Range) (q : Packet) : Type 0 where
   pub sound : misordered p ≡ false
-  pub few : length rs ≤ 128
+  pub few : length rs ≤ maxOptions
   pub is : q ≡ packetWith p token rs payload
-
--- No answer is both a refusal and a value.
-never : {A : Type 0} (C : Type 0) (a : A) (k : ℕ) → _≡_ {A = Answer A} (refused k) (given a) → C
-never C a k e = absurd (let z : _≡_ {A = ℕ} 0 1 = cc in omega arith)
 
 module _ (p q : Packet) where
   of-orderly : (a : Answer Packet) → orderly p a ≡ given q → (misordered p ≡ false) × (a ≡ given q)
   of-orderly a =
       on (λ (b : Answer Packet). b ≡ given q → (misordered p ≡ false) × (a ≡ given q)) (misordered p)
-      (λ m e. never ((misordered p ≡ false) × (a ≡ given q)) q 11 e) (λ m e. (m, e))
+      (λ m e. not-refused (sym e)) (λ m e. (m, e))
 
-  of-roomy : (rs : List OptionRecord) → roomy p rs ≡ given q → (length rs ≤ 128) × (q ≡ withRecords p rs)
+  of-roomy : (rs : List OptionRecord) → roomy p rs ≡ given q → (length rs ≤ maxOptions) × (q ≡ withRecords p rs)
   of-roomy rs =
-      on-lt (λ (b : Answer Packet). b ≡ given q → (length rs ≤ 128) × (q ≡ withRecords p rs)) 128 (length rs)
-      (λ l e. never ((length rs ≤ 128) × (q ≡ withRecords p rs)) q 6 e) (λ l e. (l, cc))
+      on-lt (λ (b : Answer Packet). b ≡ given q → (length rs ≤ maxOptions) × (q ≡ withRecords p rs)) maxOptions (length rs)
+      (λ l e. not-refused (sym e)) (λ l e. (l, cc))
 
-  of-given : (rs : List OptionRecord) (token payload : Range) → misordered p ≡ false → length rs ≤ 128 → given (packetWith p token rs payload) ≡ given q
+  of-given : (rs : List OptionRecord) (token payload : Range) → misordered p ≡ false → length rs ≤ maxOptions → given (packetWith p token rs payload) ≡ given q
       → Made p token rs payload q
   of-given rs token payload m l e = record { sound = m; few = l; is = cc }
-
-  -- The records in use of a packet that an edit takes.
-  used-few : misordered p ≡ false → length (recordsOf p) ≤ 128
-  used-few m = omega (arith, in-order p m .few, length-take (p .count) (p .options))
 
   pub made-roomy : (rs : List OptionRecord) → orderly p (roomy p rs) ≡ given q → Made p (p .token) rs (p .payload) q
   made-roomy rs e =
@@ -73,7 +68,7 @@ module _ (p q : Packet) where
   unfolding cleared
   made-cleared n e =
       let o = of-orderly (given (withRecords p (removed n (recordsOf p)))) e in
-      of-given (removed n (recordsOf p)) (p .token) (p .payload) (o .0) (omega (arith, used-few (o .0), length-removed n (recordsOf p))) (o .1)
+      of-given (removed n (recordsOf p)) (p .token) (p .payload) (o .0) (omega (arith, taken-few p (o .0), length-removed n (recordsOf p))) (o .1)
 
   pub made-empty : clearedAll p ≡ given q → Made p (p .token) [] (p .payload) q
   unfolding clearedAll
@@ -83,29 +78,29 @@ module _ (p q : Packet) where
   unfolding payloadSet
   made-payload payload e =
       let o = of-orderly (given (packetWith p (p .token) (recordsOf p) payload)) e in
-      of-given (recordsOf p) (p .token) payload (o .0) (used-few (o .0)) (o .1)
+      of-given (recordsOf p) (p .token) payload (o .0) (taken-few p (o .0)) (o .1)
 
   pub made-token : (token : Range) → tokenSet p token ≡ given q → (token .len ≤ 15) × Made p token (recordsOf p) (p .payload) q
   unfolding tokenSet
   made-token token =
       on-lt (λ (b : Answer Packet). b ≡ given q → (token .len ≤ 15) × Made p token (recordsOf p) (p .payload) q) 15 (token .len)
-      (λ l e. never ((token .len ≤ 15) × Made p token (recordsOf p) (p .payload) q) q 11 e)
+      (λ l e. not-refused (sym e))
       (λ l e.
       let o = of-orderly (given (packetWith p token (recordsOf p) (p .payload))) e in
-      (l, of-given (recordsOf p) token (p .payload) (o .0) (used-few (o .0)) (o .1)))
+      (l, of-given (recordsOf p) token (p .payload) (o .0) (taken-few p (o .0)) (o .1)))
 
 -- What a packet that was made holds: those records, 128 places, and an order that edits take where the records have one.
 module _ (p : Packet) (token : Range) (rs : List OptionRecord) (payload : Range) (q : Packet) (m : Made p token rs payload q) where
   pub made-records : recordsOf q ≡ rs
-  made-records = ap recordsOf (m .is) ∙ take-append-seam rs (replicate (128 - length rs) none)
+  made-records = ap recordsOf (m .is) ∙ take-append-seam rs (replicate (maxOptions - length rs) none)
 
-  pub made-places : length (q .options) ≡ 128
+  pub made-places : length (q .options) ≡ maxOptions
   made-places = ap (λ (x : Packet). length (x .options)) (m .is) ∙ simp (length-append, length-replicate) (omega (arith, m .few))
 
   pub made-order : falling 0 rs ≡ false → misordered q ≡ false
   made-order e =
-      let few : q .count ≤ 128 = omega (arith, ap (λ (x : Packet). x .count) (m .is), m .few) in
-      rw (le-ltb 128 (q .count) few) (ap (falling 0) made-records ∙ e)
+      let few : q .count ≤ maxOptions = omega (arith, ap (λ (x : Packet). x .count) (m .is), m .few) in
+      rw (le-ltb maxOptions (q .count) few) (ap (falling 0) made-records ∙ e)
 
 -- Every edit that is done leaves a packet that edits take: at most 128 records, whose numbers do not fall.
 module _ (p q : Packet) where
@@ -135,36 +130,13 @@ module _ (p q : Packet) where
   pub payload-order : (payload : Range) → payloadSet p payload ≡ given q → misordered q ≡ false
   payload-order payload e = let m = made-payload p q payload e in made-order p _ _ _ q m (rising (m .sound))
 
--- A setter that is done: its edit of the records is, and its bytes are inside the store.
-pub record Stored (old : List ℕ) (start : ℕ) (bytes : List ℕ) (edit : Answer Packet) (q : Packet) : Type 0 where
-  pub made : edit ≡ given q
-  pub inside : start + length bytes ≤ length old
-  pub short : length old ≤ 70000
-
-module _ (old : List ℕ) (start : ℕ) (bytes : List ℕ) (q : Packet) where
-  of-room : (a : Answer Packet) → withRoom old start bytes a ≡ given q → (a ≡ given q) × (start + length bytes ≤ length old)
-  of-room (given r) =
-      on-lt (λ (b : Answer Packet). b ≡ given q → (given r ≡ given q) × (start + length bytes ≤ length old)) (length old) (start + length bytes)
-      (λ l e. never ((given r ≡ given q) × (start + length bytes ≤ length old)) q 12 e) (λ l e. (e, l))
-  of-room (refused k) = λ e. never ((refused k ≡ given q) × (start + length bytes ≤ length old)) q k e
-
-  pub of-storing : (a : Answer Packet) → storing old start bytes a ≡ given q → Stored old start bytes a q
-  of-storing a =
-      on-lt (λ (b : Answer Packet). b ≡ given q → Stored old start bytes a q) 70000 (length old)
-      (λ l e. never (Stored old start bytes a q) q 10 e)
-      (λ l e. let r = of-room a e in record { made = r .0; inside = r .1; short = l })
-
-module _ (old : List ℕ) (start n : ℕ) (p q : Packet) where
-  pub stored-format : formatSet old start p n ≡ given q → Stored old start (uint 2 n) (added p 12 (rangeOf start (uint 2 n))) q
-  unfolding formatSet
-  stored-format e = of-storing old start (uint 2 n) q (added p 12 (rangeOf start (uint 2 n))) e
-
-  pub stored-observe : observeSet old start p n ≡ given q → Stored old start (uint 4 n) (optionSet p 6 (rangeOf start (uint 4 n) ∷ [])) q
-  unfolding observeSet
-  stored-observe e = of-storing old start (uint 4 n) q (optionSet p 6 (rangeOf start (uint 4 n) ∷ [])) e
-
-  pub format-order : formatSet old start p n ≡ given q → misordered q ≡ false
-  format-order e = added-order p q 12 (rangeOf start (uint 2 n)) (stored-format e .made)
-
-  pub observe-order : observeSet old start p n ≡ given q → misordered q ≡ false
-  observe-order e = set-order p q 6 (rangeOf start (uint 4 n) ∷ []) (stored-observe e .made)
+-- Clearing a number sets no option of it.
+pub cleared-set : (p : Packet) (n : ℕ) → optionSet p n [] ≡ cleared p n
+unfolding optionSet cleared
+cleared-set p n = go (misordered p) refl
+  where
+    go : (t : Bool) → misordered p ≡ t → pick t (refused 11) (roomy p (replaced n [] (recordsOf p))) ≡ pick t (refused 11) (given (withRecords p (removed n (recordsOf p))))
+    go true m = refl
+    go false m =
+        let few : length (removed n (recordsOf p)) ≤ maxOptions = omega (arith, taken-few p m, length-removed p p n (recordsOf p)) in
+        ap (roomy p) (inserted-nothing n (removed n (recordsOf p))) ∙ rw (le-ltb maxOptions (length (removed n (recordsOf p))) few) refl

@@ -6,20 +6,22 @@ use mathlib.Core.List.{List, [], _∷_, _++_, map, map-append, map-map}
 use lib.ListN.{length, replicate}
 use lib.Seq.{take-append-seam}
 use lib.Dec.{leb, eqb}
-use Rattle.rfc.specs.Choice.{pick, either}
+use Rattle.ground.specs.Choice.{pick, either}
 use Rattle.rfc.specs.Message.{Rising}
 use Rattle.refusal.specs.Answer.{given}
+use Rattle.packet.specs.Limits.{maxOptions}
 use Rattle.packet.specs.Packet.{none, bytesOf, recordsOf}
 use Rattle.packet.specs.Meaning.{optionOf, meaning}
 use Rattle.packet.specs.declared.Packet.{Packet}
 use Rattle.packet.specs.declared.OptionRecord.{OptionRecord}
 use Rattle.packet.specs.declared.Range.{Range}
-use Rattle.packet.specs.Judge.{falling, misordered}
+use Rattle.judging.specs.Judge.{falling, misordered}
 use Rattle.editing.specs.Numbered.{upToBy, insertedBy, removedBy}
-use Rattle.editing.specs.Edit.{upTo, inserted, removed, recordOf, tokenSet, payloadSet, added, optionSet, cleared, clearedAll}
+use Rattle.splicing.specs.Splice.{recordOf}
+use Rattle.editing.specs.Edit.{upTo, inserted, removed, tokenSet, payloadSet, added, optionSet, cleared, clearedAll}
 use Rattle.editing.specs.Message.{withOptions, withToken, withPayload, optionAdded, optionsCleared, optionsSet}
 use Rattle.editing.proofs.Records.{rises}
-use Rattle.editing.proofs.Walk.{in-order}
+use Rattle.judging.proofs.Order.{in-order}
 use Rattle.editing.proofs.Made.{Made, made-added, made-set, made-cleared, made-empty, made-token, made-payload}
 
 -- A choice between lists, mapped.
@@ -47,22 +49,22 @@ module _ (s : List ℕ) where
 
   -- What a packet that was made means.
   pub meaning-made : (p q : Packet) (token payload : Range) (rs : List OptionRecord) → Made p token rs payload q
-      → meaning s q ≡ withOptions (withPayload (withToken (meaning s p) (bytesOf s (token .start) (token .len))) (bytesOf s (payload .start) (payload .len))) (map (optionOf s) rs)
+      → meaning s q ≡ withOptions (withPayload (withToken (meaning s p) (bytesOf s token)) (bytesOf s payload)) (map (optionOf s) rs)
   meaning-made p q token payload rs m =
       ap (meaning s) (m .is)
-      ∙ ap (λ (os : List OptionRecord). withOptions (withPayload (withToken (meaning s p) (bytesOf s (token .start) (token .len))) (bytesOf s (payload .start) (payload .len))) (map (optionOf s) os))
-      (take-append-seam rs (replicate (128 - length rs) none))
+      ∙ ap (λ (os : List OptionRecord). withOptions (withPayload (withToken (meaning s p) (bytesOf s token)) (bytesOf s payload)) (map (optionOf s) os))
+      (take-append-seam rs (replicate (maxOptions - length rs) none))
 
   module _ (p q : Packet) where
     -- Token and payload: nothing else changes.
-    pub meaning-token : (token : Range) → tokenSet p token ≡ given q → meaning s q ≡ withToken (meaning s p) (bytesOf s (token .start) (token .len))
+    pub meaning-token : (token : Range) → tokenSet p token ≡ given q → meaning s q ≡ withToken (meaning s p) (bytesOf s token)
     meaning-token token e = meaning-made p q token (p .payload) (recordsOf p) (made-token p q token e .1)
 
-    pub meaning-payload : (payload : Range) → payloadSet p payload ≡ given q → meaning s q ≡ withPayload (meaning s p) (bytesOf s (payload .start) (payload .len))
+    pub meaning-payload : (payload : Range) → payloadSet p payload ≡ given q → meaning s q ≡ withPayload (meaning s p) (bytesOf s payload)
     meaning-payload payload e = meaning-made p q (p .token) payload (recordsOf p) (made-payload p q payload e)
 
     -- Options: the added value is at its place, a cleared number is gone, the set values stand for the old ones; nothing else moves.
-    pub meaning-added : (n : ℕ) (range : Range) → added p n range ≡ given q → meaning s q ≡ optionAdded (meaning s p) n (bytesOf s (range .start) (range .len))
+    pub meaning-added : (n : ℕ) (range : Range) → added p n range ≡ given q → meaning s q ≡ optionAdded (meaning s p) n (bytesOf s range)
     meaning-added n range e =
         meaning-made p q (p .token) (p .payload) (inserted n (recordOf n range ∷ []) (recordsOf p)) (made-added p q n range e)
         ∙ ap (withOptions (meaning s p)) (map-inserted n (recordOf n range ∷ []) (recordsOf p))
@@ -76,10 +78,10 @@ module _ (s : List ℕ) where
     meaning-empty e = meaning-made p q (p .token) (p .payload) [] (made-empty p q e)
 
     pub meaning-set : (n : ℕ) (ranges : List Range) → optionSet p n ranges ≡ given q
-        → meaning s q ≡ optionsSet (meaning s p) n (map (λ range. bytesOf s (range .start) (range .len)) ranges)
+        → meaning s q ≡ optionsSet (meaning s p) n (map (λ range. bytesOf s range) ranges)
     meaning-set n ranges e =
-        let values : map (optionOf s) (map (recordOf n) ranges) ≡ map (λ v. record { number = n; value = v }) (map (λ range. bytesOf s (range .start) (range .len)) ranges) =
-        map-map (optionOf s) (recordOf n) ranges ∙ sym (map-map (λ v. record { number = n; value = v }) (λ range. bytesOf s (range .start) (range .len)) ranges) in
+        let values : map (optionOf s) (map (recordOf n) ranges) ≡ map (λ v. record { number = n; value = v }) (map (λ range. bytesOf s range) ranges) =
+        map-map (optionOf s) (recordOf n) ranges ∙ sym (map-map (λ v. record { number = n; value = v }) (λ range. bytesOf s range) ranges) in
         meaning-made p q (p .token) (p .payload) (inserted n (map (recordOf n) ranges) (removed n (recordsOf p))) (made-set p q n ranges e)
         ∙ ap (withOptions (meaning s p)) (map-inserted n (map (recordOf n) ranges) (removed n (recordsOf p)) ∙ (rw (values, map-removed n (recordsOf p)) refl))
 

@@ -6,8 +6,8 @@ use mathlib.Core.List.{List, [], _∷_, _++_, append-nil}
 use native.Mathlib.Omega.{arith}
 use lib.Dec.{leb, eqb}
 use borrow.Author.Tests.{eq-eqb, ne-eqb, leb-false}
-use Rattle.rfc.specs.Choice.{pick, either}
-use Rattle.rfc.proofs.Choice.{on, on-eq}
+use Rattle.ground.specs.Choice.{pick, either}
+use Rattle.ground.proofs.Choice.{on, on-eq}
 use Rattle.packet.specs.Packet.{ofNumber}
 use Rattle.packet.specs.declared.OptionRecord.{OptionRecord}
 use Rattle.packet.proofs.Records.{first-of, first-not}

@@ -1,22 +1,18 @@
 -- Laws of the lists that edits make: records inserted, removed and replaced.
-use Prim.Native.Nat.{ℕ, suc, _+_, _<_, _≤_}
+use Prim.Native.Nat.{ℕ, _+_, _<_, _≤_}
 use mathlib.Core.Path.{_≡_, refl, sym, ap}
 use mathlib.Core.Bool.{Bool, true, false}
 use mathlib.Core.List.{List, [], _∷_, _++_, append-nil, map}
 use native.Mathlib.Omega.{arith}
-use lib.ListN.{length, length-append}
 use lib.Dec.{ltb}
 use borrow.Author.Tests.{le-ltb, le-leb, lt-leb, ltb-false, eq-eqb, ne-eqb}
-use Rattle.rfc.specs.Choice.{pick}
-use Rattle.rfc.proofs.Choice.{on, on-lt, on-eq}
+use Rattle.ground.specs.Choice.{pick}
+use Rattle.ground.proofs.Choice.{on, on-eq, by-lt}
 use Rattle.packet.specs.declared.OptionRecord.{OptionRecord}
 use Rattle.packet.specs.declared.Range.{Range}
-use Rattle.packet.specs.Judge.{falling}
-use Rattle.editing.specs.Edit.{upTo, inserted, removed, recordOf}
-
--- A number is lower than another, or it is not.
-pub by-lt : {C : Type 0} (a b : ℕ) → (a < b → C) → (b ≤ a → C) → C
-by-lt {C} a b lower not = on-lt (λ (_ : Unit {0}). C) a b {x = tt} {y = tt} lower not
+use Rattle.judging.specs.Judge.{falling}
+use Rattle.splicing.specs.Splice.{recordOf}
+use Rattle.editing.specs.Edit.{upTo, inserted, removed}
 
 -- Numbers that do not fall from `before` on: the first is no lower, and the rest do not fall from it on.
 pub record Rises (before : ℕ) (r : OptionRecord) (rs : List OptionRecord) : Type 0 where
@@ -48,18 +44,11 @@ module _ (n : ℕ) (new : List OptionRecord) where
   pub inserted-after : (r : OptionRecord) (rs : List OptionRecord) → r .number ≤ n → inserted n new (r ∷ rs) ≡ r ∷ inserted n new rs
   inserted-after r rs h = rw (le-leb (r .number) n h) refl
 
-  pub length-inserted : (rs : List OptionRecord) → length (inserted n new rs) ≡ length new + length rs
-  length-inserted [] = omega arith
-  length-inserted (r ∷ rs) =
-      on (λ (l : List OptionRecord). length l ≡ length new + suc (length rs)) (upTo n (r ∷ rs))
-      (λ _. omega (arith, length-inserted rs)) (λ _. length-append new (r ∷ rs))
-
--- One record before a higher number moves that one up, and so on.
-pub inserted-moves : (n : ℕ) (y x : OptionRecord) (rs : List OptionRecord) → n < x .number → falling (x .number) rs ≡ false
-    → inserted n (y ∷ []) (x ∷ rs) ≡ y ∷ inserted n (x ∷ []) rs
-inserted-moves n y x rs h e =
-    let above : upTo n rs ≡ false = none-up-to n (x .number) rs h e in
-    rw (lt-leb (x .number) n h, above) (ap (λ (l : List OptionRecord). y ∷ l) (sym (inserted-first n (x ∷ []) rs above)))
+-- No new record changes nothing.
+pub inserted-nothing : (n : ℕ) (rs : List OptionRecord) → inserted n [] rs ≡ rs
+inserted-nothing n [] = refl
+inserted-nothing n (r ∷ rs) =
+    on (λ (l : List OptionRecord). l ≡ r ∷ rs) (upTo n (r ∷ rs)) (λ _. ap (λ (l : List OptionRecord). r ∷ l) (inserted-nothing n rs)) (λ _. refl)
 
 -- A record of the number is left out, any other stays.
 module _ (n : ℕ) (r : OptionRecord) (rs : List OptionRecord) where

@@ -3,7 +3,7 @@ use Prim.Native.Nat.{ℕ}
 use mathlib.Core.Bool.{Bool, false}
 use mathlib.Core.List.{List, [], _∷_, _++_}
 use lib.Dec.{leb, eqb}
-use Rattle.rfc.specs.Choice.{pick, either}
+use Rattle.ground.specs.Choice.{pick, either}
 
 module _ {A : Type 0} (number : A → ℕ) where
   -- Something has the number or a lower one.

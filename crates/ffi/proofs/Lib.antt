@@ -1,2 +1,3 @@
-pub mod Flat
-pub mod Unflat
+pub mod Answered
+pub mod Numbers
+pub mod ReadBack

@@ -1,3 +1,2 @@
-pub mod Flat
-pub mod Unflat
-pub mod Copy
+pub mod Handed
+pub mod Copied

@@ -1,4 +1,2 @@
-pub mod Class
-pub mod CodeText
 pub mod Raw
 mod Examples

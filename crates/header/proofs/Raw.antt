@@ -6,21 +6,22 @@ use native.Mathlib.Omega.{arith}
 use lib.Dec.{lit<}
 use lib.ListN.{length, take}
 use borrow.Author.Tests.{le-ltb}
-use Rattle.rfc.specs.Part.{Bytes}
+use Rattle.ground.specs.Part.{Bytes}
 use Rattle.rfc.specs.Message.{Opt, headerLayout}
-use Rattle.rfc.proofs.Choice.{on-eq}
-use Rattle.refusal.specs.Answer.{given}
+use Rattle.ground.proofs.Choice.{on-eq}
+use Rattle.refusal.specs.Answer.{given, Beside}
 use Rattle.refusal.specs.Number.{numberOf}
-use Rattle.refusal.proofs.Distinct.{distinct}
-use Rattle.header.specs.Class.{byteOf, classOf}
-use Rattle.header.specs.Header.{numberOfType, typeOf, newRaw, rawBytes, rawIn, rawRead, newHeader, headerOf, firstByte, rawOf}
+use Rattle.refusal.proofs.Distinct.{distinct, one-outcome}
+use Rattle.class.specs.Class.{byteOf, classOf}
+use Rattle.class.proofs.Class.{byte-back}
+use Rattle.header.specs.Header.{numberOfType, typeOf, newRaw, rawBytes, rawIn, rawRead, newHeader, headerOf, tokenOf, firstByte, rawOf, settingOf}
 use Rattle.header.specs.declared.MessageType.{MessageType}
 use Rattle.header.specs.declared.MessageType.the-variants.{Confirmable, NonConfirmable, Acknowledgement, Reset}
 use Rattle.header.specs.declared.HeaderRaw.{HeaderRaw}
 use Rattle.header.specs.declared.Header.{Header}
+use Rattle.header.specs.declared.HeaderSet.{HeaderSet}
 use Rattle.header.specs.declared.RawRead.{RawRead}
 use Rattle.header.specs.declared.RawRead.the-variants.{Raw, Refused}
-use Rattle.header.proofs.Class.{byte-back}
 
 -- A type's number has two bits.
 pub type-small : (t : MessageType) → numberOfType t < 4
@@ -86,6 +87,11 @@ one-raw (Raw x) (Refused k) e = cc
 one-raw (Refused j) (Raw y) e = cc
 one-raw (Refused j) (Refused k) e = let n : numberOf j ≡ numberOf k = cc in rw (distinct j k n)
 
+pub one-setting : (a b : HeaderSet) → settingOf a ≡ settingOf b → a ≡ b
+one-setting a b e =
+    let o : a .outcome ≡ b .outcome = one-outcome (a .outcome) (b .outcome) (ap (λ (s : Beside Header). s .answer) e) in
+    λ i. record { outcome = o i; header = e i .value }
+
 -- A new header is that of a new raw header.
 pub new-header : headerOf newRaw ≡ newHeader
 unfolding headerOf typeOf classOf
@@ -105,7 +111,7 @@ header-back h n =
     rw (v, t)
 
 -- A raw header comes back from its header, with the token's length that its first byte gives.
-pub raw-header-back : (raw : HeaderRaw) → raw .«ver_type_tkl» < 256 → rawOf (headerOf raw) (raw .«ver_type_tkl» % 16) ≡ raw
+pub raw-header-back : (raw : HeaderRaw) → raw .«ver_type_tkl» < 256 → rawOf (headerOf raw) (tokenOf raw) ≡ raw
 unfolding headerOf
 raw-header-back raw h =
     let b : ℕ = raw .«ver_type_tkl» in

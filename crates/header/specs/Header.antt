@@ -3,17 +3,19 @@ use Prim.Native.Nat.{ℕ, _+_, _*_, _/_, _%_}
 use mathlib.Core.List.{List, [], _∷_}
 use lib.ListN.{length, getD}
 use lib.Dec.{ltb, eqb}
-use Rattle.rfc.specs.Choice.{pick}
-use Rattle.refusal.specs.Answer.{Answer, given, refused}
+use Rattle.ground.specs.Choice.{pick}
+use Rattle.refusal.specs.Answer.{Answer, given, refused, onward, outcome, Beside}
 use Rattle.refusal.specs.Number.{numberOf}
-use Rattle.header.specs.Class.{byteOf, classOf}
+use Rattle.class.specs.Class.{byteOf, classOf}
+use Rattle.class.specs.declared.MessageClass.{MessageClass}
+use Rattle.class.specs.declared.MessageClass.the-variants.{Request}
+use Rattle.class.specs.declared.RequestType.the-variants.{Get}
+use Rattle.code_text.specs.CodeText.{codeIn, codeText}
 use Rattle.header.specs.declared.MessageType.{MessageType}
 use Rattle.header.specs.declared.MessageType.the-variants.{Confirmable, NonConfirmable, Acknowledgement, Reset}
-use Rattle.header.specs.declared.MessageClass.{MessageClass}
-use Rattle.header.specs.declared.MessageClass.the-variants.{Request}
-use Rattle.header.specs.declared.RequestType.the-variants.{Get}
 use Rattle.header.specs.declared.HeaderRaw.{HeaderRaw}
 use Rattle.header.specs.declared.Header.{Header}
+use Rattle.header.specs.declared.HeaderSet.{HeaderSet}
 use Rattle.header.specs.declared.RawRead.{RawRead}
 use Rattle.header.specs.declared.RawRead.the-variants.{Raw, Refused}
 
@@ -35,6 +37,14 @@ typeOf n =
 abbrev pub newRaw : HeaderRaw
 newRaw = record { «ver_type_tkl» = 0x40; code = 0x01; «message_id» = 0 }
 
+-- The version of a raw header: the high two bits of its first byte.
+abbrev pub versionOf : HeaderRaw → ℕ
+versionOf raw = raw .«ver_type_tkl» / 64
+
+-- The length of its token: the low four bits of its first byte.
+abbrev pub tokenOf : HeaderRaw → ℕ
+tokenOf raw = raw .«ver_type_tkl» % 16
+
 -- The four bytes of a raw header, the id high byte first.
 abbrev pub rawBytes : HeaderRaw → List ℕ
 rawBytes raw = raw .«ver_type_tkl» ∷ raw .code ∷ (raw .«message_id» / 256) ∷ (raw .«message_id» % 256) ∷ []
@@ -54,11 +64,11 @@ rawRead (Refused e) = refused (numberOf e)
 abbrev pub newHeader : Header
 newHeader = record { version = 1; «message_type» = Confirmable; code = Request Get; «message_id» = 0 }
 
--- The header that a raw header stands for: the first byte holds the version in its high two bits, the type in the next two.
+-- The header that a raw header stands for: the first byte holds the type in the two bits after the version.
 unfoldable pub headerOf : HeaderRaw → Header
 headerOf raw =
     record {
-      version = raw .«ver_type_tkl» / 64;
+      version = versionOf raw;
       «message_type» = typeOf (raw .«ver_type_tkl» / 16);
       code = classOf (raw .code);
       «message_id» = raw .«message_id»;
@@ -89,3 +99,15 @@ withClass h c = record { version = h .version; «message_type» = h .«message_t
 -- A header with another message id.
 abbrev pub withId : Header → ℕ → Header
 withId h id = record { version = h .version; «message_type» = h .«message_type»; code = h .code; «message_id» = id }
+
+-- A header with the class of the code that a text says; a text that is no code gives BadText (15).
+abbrev pub withCode : Header → List ℕ → Answer Header
+withCode h text = onward (codeIn text) (λ b. given (withClass h (classOf b)))
+
+-- The answer of setting a code from text: the outcome, and a header in every case.
+abbrev pub settingOf : HeaderSet → Beside Header
+settingOf s = record { answer = outcome (s .outcome); value = s .header }
+
+-- The text of a header's code.
+abbrev pub codeOutput : Header → List ℕ
+codeOutput h = codeText (byteOf (h .code))

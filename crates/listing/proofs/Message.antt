@@ -6,7 +6,7 @@ use lib.ListN.{length}
 use borrow.Author.Tests.{le-ltb}
 use Rattle.rfc.specs.Message.{Message, WellFormed, layout}
 use Rattle.reading.proofs.Complete.{reads-layout}
-use Rattle.printing.specs.Lines.{messageLines}
+use Rattle.lines.specs.Lines.{messageLines}
 use Rattle.listing.specs.Listing.{newline, listing}
 
 pub listing-layout : (m : Message) → WellFormed m → length (layout m) ≤ 65535 → listing (layout m) ≡ messageLines newline m

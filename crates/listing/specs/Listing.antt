@@ -4,19 +4,22 @@ use mathlib.Core.Bool.{true}
 use mathlib.Core.List.{List}
 use lib.ListN.{length}
 use lib.Dec.{ltb}
-use Rattle.rfc.specs.Choice.{pick}
+use Rattle.ground.specs.Choice.{pick}
 use Rattle.packet.specs.Meaning.{meaning}
-use Rattle.reading.specs.Reading.{Read, readOf, reading}
-use Rattle.printing.specs.Lines.{linesOf, refusalLine}
+use Rattle.refusal.specs.Answer.{beside, Beside}
+use Rattle.packet.specs.Packet.{newPacket}
+use Rattle.packet.specs.declared.Packet.{Packet}
+use Rattle.reading.specs.Reading.{reading}
+use Rattle.lines.specs.Lines.{linesOf, refusalLine}
 
 -- The byte that ends a line.
 abbrev pub newline : ℕ
 newline = 10
 
 -- What a reader's answer to a datagram prints.
-abbrev pub answer : List ℕ → Read → List ℕ
-answer s r = linesOf newline (r .answer) (meaning s (r .packet))
+abbrev pub answer : List ℕ → Beside Packet → List ℕ
+answer s r = linesOf newline (r .answer) (meaning s (r .value))
 
 -- The lines of a datagram that is read strictly; one over 65,535 bytes is TooLong (10).
 unfoldable pub listing : List ℕ → List ℕ
-listing s = pick (ltb 65535 (length s)) (refusalLine newline 10) (answer s (readOf (reading true s)))
+listing s = pick (ltb 65535 (length s)) (refusalLine newline 10) (answer s (beside newPacket (reading true s)))

@@ -14,9 +14,9 @@ fn list(datagram: &[u8], out: &mut [u8; 135000]) -> usize
     ensures { λ r. ⌜ take r (now (out .exit)) ≡ listing (now (datagram .entry)) ⌝ }
 {
     if 65535 < datagram.len() {
-        return printing::put_refusal(out, 0, Refusal::TooLong, b'\n');
+        return lines::put_refusal(out, 0, Refusal::TooLong, b'\n');
     }
-    printing::put_decoded(
+    lines::put_decoded(
         out,
         0,
         reading::from_bytes_strict(datagram),

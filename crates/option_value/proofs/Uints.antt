@@ -9,10 +9,10 @@ use lib.ListN.{length, getD, take}
 use mir.Val.{Fits}
 use mir.Syntax.{w8}
 use borrow.Author.Tests.{lt-ltb, le-ltb}
-use Rattle.rfc.specs.Part.{Bytes}
+use Rattle.ground.specs.Part.{Bytes}
 use Rattle.rfc.specs.Uint.{number, uint, withoutZeros}
-use Rattle.rfc.proofs.Choice.{on-lt}
-use Rattle.rfc.proofs.Part.{bytes-of}
+use Rattle.ground.proofs.Choice.{on-lt}
+use Rattle.ground.proofs.Part.{bytes-of}
 use Rattle.rfc.proofs.Uint.{written-read, read-written, length-uint, number-below}
 use Rattle.refusal.specs.Answer.{Answer, given, refused, fitted, after}
 use Rattle.option_value.specs.Uint.{readUint, uintOf}
@@ -65,7 +65,7 @@ written-then-read width n w h =
     read-within width (uint width n) l (omega arith) ∙ ap given (written-read width n h)
 
 -- So it is with the part of an output that was written.
-pub output-then-read : (width n : ℕ) (old : List ℕ) (count : ℕ) → width ≤ 8 → n < 256 ^ width → fitted (length old) (uint width n) ≡ given count → readUint width (take count (after (fitted (length old) (uint width n)) (uint width n) old)) ≡ given n
+pub output-then-read : (width n : ℕ) (old : List ℕ) (count : ℕ) → width ≤ 8 → n < 256 ^ width → fitted (length old) (uint width n) ≡ given count → readUint width (take count (after (fitted (length old) (uint width n)) 0 (uint width n) old)) ≡ given n
 output-then-read width n old count w h e = rw (front-after old (uint width n) count e) (written-then-read width n w h)
 
 -- Read then written is the value without its leading zeros.

@@ -1,14 +1,12 @@
 -- What a value of format string answers: text is UTF-8, and all else is BadText (15).
 use Prim.Native.Nat.{ℕ}
 use mathlib.Core.List.{List, []}
-use Rattle.rfc.specs.Choice.{pick}
-use Rattle.rfc.specs.Text.{text, Lead as Row, due, never}
+use Rattle.ground.specs.Choice.{pick}
+use Rattle.rfc.specs.Text.{text}
 use Rattle.refusal.specs.Number.{numberOf}
 use Rattle.refusal.specs.Answer.{Answer, given, refused, fitted}
 use Rattle.option_value.specs.declared.Text.{Text}
 use Rattle.option_value.specs.declared.Text.the-variants.{Valid, Refused}
-use Rattle.option_value.specs.declared.Lead.{Lead}
-use Rattle.option_value.specs.declared.Lead.the-variants.{Due, Never}
 
 -- Reading accepts exactly the texts of RFC 3629.
 abbrev pub readText : List ℕ → Answer (Unit {0})
@@ -26,8 +24,3 @@ writeText room bs = pick (text bs) (fitted room bs) (refused 15)
 abbrev pub textOf : Text → Answer (Unit {0})
 textOf Valid = given tt
 textOf (Refused e) = refused (numberOf e)
-
--- What a first byte calls for, as a row of RFC 3629's grammar.
-abbrev pub rowOf : Lead → Row
-rowOf (Due count low high) = due count low high
-rowOf Never = never

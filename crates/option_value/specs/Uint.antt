@@ -3,7 +3,7 @@ use Prim.Native.Nat.{ℕ, min}
 use mathlib.Core.List.{List}
 use lib.ListN.{length}
 use lib.Dec.{ltb}
-use Rattle.rfc.specs.Choice.{pick}
+use Rattle.ground.specs.Choice.{pick}
 use Rattle.rfc.specs.Uint.{number}
 use Rattle.refusal.specs.Number.{numberOf}
 use Rattle.refusal.specs.Answer.{Answer, given, refused}

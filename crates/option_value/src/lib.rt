@@ -1,15 +1,16 @@
 // Convenience types for option values: uints of four widths, and text.
+use placing::put_bytes;
+use placing::put_uint;
+use placing::uint_length;
 use refusal::Refusal;
 use refusal::Written;
-ghost use Prim.Native.Nat.{_≤_};
+use utf8::is_text;
 ghost use mathlib.Core.Path.{_≡_};
 ghost use lib.ListN.{length};
-ghost use lib.Seq.{sets};
 ghost use Rattle.rfc.specs.Uint.{uint};
-ghost use Rattle.rfc.specs.Text.{text, lead};
 ghost use Rattle.refusal.specs.Answer.{written, fitted, after};
 ghost use Rattle.option_value.specs.Uint.{readUint, uintOf, readU8, readU16, readU32, readU64};
-ghost use Rattle.option_value.specs.Text.{readText, textPart, writeText, textOf, rowOf};
+ghost use Rattle.option_value.specs.Text.{readText, textPart, writeText, textOf};
 
 // What reading a uint answers: every reader of a uint goes through this type.
 pub enum Uint {
@@ -17,37 +18,15 @@ pub enum Uint {
     Refused(Refusal),
 }
 
-// How many bytes the shortest form of a number has.
-fn uint_length(value: u64) -> usize
-    ensures { λ r. ⌜ r ≡ length (uint 8 value) ⌝ }
-{
-    let mut draining_value = value;
-    let mut count: usize = 0;
-    while draining_value > 0 {
-        draining_value = draining_value / 256;
-        count = count + 1;
-    }
-    count
-}
-
 // Writes the shortest bytes of a number, high byte first; zero is no bytes.
 pub fn option_from_uint(value: u64, out: &mut [u8]) -> Written
     ensures { λ r. ⌜ written r ≡ fitted (length (now (out .entry))) (uint 8 value) ⌝ }
-    ensures { λ r. ⌜ now (out .exit) ≡ after (fitted (length (now (out .entry))) (uint 8 value)) (uint 8 value) (now (out .entry)) ⌝ }
+    ensures { λ r. ⌜ now (out .exit) ≡ after (fitted (length (now (out .entry))) (uint 8 value)) 0 (uint 8 value) (now (out .entry)) ⌝ }
 {
-    let count = uint_length(value);
-    if out.len() < count {
+    if out.len() < uint_length(value) {
         return Written::Refused(Refusal::NoRoom);
     }
-    let mut draining_value = value;
-    let mut i = 0;
-    while i < count {
-        let place = count - 1 - i;
-        out[place] = (draining_value % 256) as u8;
-        draining_value = draining_value / 256;
-        i = i + 1;
-    }
-    Written::Length(count)
+    Written::Length(put_uint(out, 0, value))
 }
 
 // Reads a value of at most `value_size` bytes, and never more than 8. Leading zeros are read, and count as bytes.
@@ -81,7 +60,7 @@ impl OptionValueU8 {
     // Writes the shortest bytes, high byte first; zero is no bytes.
     pub fn into_bytes(self, out: &mut [u8]) -> Written
         ensures { λ r. ⌜ written r ≡ fitted (length (now (out .entry))) (uint 1 (self .0)) ⌝ }
-        ensures { λ r. ⌜ now (out .exit) ≡ after (fitted (length (now (out .entry))) (uint 1 (self .0))) (uint 1 (self .0)) (now (out .entry)) ⌝ }
+        ensures { λ r. ⌜ now (out .exit) ≡ after (fitted (length (now (out .entry))) (uint 1 (self .0))) 0 (uint 1 (self .0)) (now (out .entry)) ⌝ }
     {
         option_from_uint(self.0 as u64, out)
     }
@@ -109,7 +88,7 @@ impl OptionValueU16 {
     // Writes the shortest bytes, high byte first; zero is no bytes.
     pub fn into_bytes(self, out: &mut [u8]) -> Written
         ensures { λ r. ⌜ written r ≡ fitted (length (now (out .entry))) (uint 2 (self .0)) ⌝ }
-        ensures { λ r. ⌜ now (out .exit) ≡ after (fitted (length (now (out .entry))) (uint 2 (self .0))) (uint 2 (self .0)) (now (out .entry)) ⌝ }
+        ensures { λ r. ⌜ now (out .exit) ≡ after (fitted (length (now (out .entry))) (uint 2 (self .0))) 0 (uint 2 (self .0)) (now (out .entry)) ⌝ }
     {
         option_from_uint(self.0 as u64, out)
     }
@@ -137,7 +116,7 @@ impl OptionValueU32 {
     // Writes the shortest bytes, high byte first; zero is no bytes.
     pub fn into_bytes(self, out: &mut [u8]) -> Written
         ensures { λ r. ⌜ written r ≡ fitted (length (now (out .entry))) (uint 4 (self .0)) ⌝ }
-        ensures { λ r. ⌜ now (out .exit) ≡ after (fitted (length (now (out .entry))) (uint 4 (self .0))) (uint 4 (self .0)) (now (out .entry)) ⌝ }
+        ensures { λ r. ⌜ now (out .exit) ≡ after (fitted (length (now (out .entry))) (uint 4 (self .0))) 0 (uint 4 (self .0)) (now (out .entry)) ⌝ }
     {
         option_from_uint(self.0 as u64, out)
     }
@@ -165,7 +144,7 @@ impl OptionValueU64 {
     // Writes the shortest bytes, high byte first; zero is no bytes.
     pub fn into_bytes(self, out: &mut [u8]) -> Written
         ensures { λ r. ⌜ written r ≡ fitted (length (now (out .entry))) (uint 8 (self .0)) ⌝ }
-        ensures { λ r. ⌜ now (out .exit) ≡ after (fitted (length (now (out .entry))) (uint 8 (self .0))) (uint 8 (self .0)) (now (out .entry)) ⌝ }
+        ensures { λ r. ⌜ now (out .exit) ≡ after (fitted (length (now (out .entry))) (uint 8 (self .0))) 0 (uint 8 (self .0)) (now (out .entry)) ⌝ }
     {
         option_from_uint(self.0, out)
     }
@@ -185,68 +164,6 @@ impl OptionValueU64 {
 pub enum Text {
     Valid,
     Refused(Refusal),
-}
-
-// What the first byte of a character calls for: a count of further bytes, and the lowest and the highest that the next
-// of them may be; or it begins no character.
-enum Lead {
-    Due(u8, u8, u8),
-    Never,
-}
-
-fn lead_of(b: u8) -> Lead
-    ensures { λ r. ⌜ rowOf r ≡ lead b ⌝ }
-{
-    match b {
-        0x00..=0x7F => Lead::Due(0, 0x80, 0xBF),
-        0xC2..=0xDF => Lead::Due(1, 0x80, 0xBF),
-        0xE0 => Lead::Due(2, 0xA0, 0xBF),
-        0xE1..=0xEC => Lead::Due(2, 0x80, 0xBF),
-        0xED => Lead::Due(2, 0x80, 0x9F),
-        0xEE..=0xEF => Lead::Due(2, 0x80, 0xBF),
-        0xF0 => Lead::Due(3, 0x90, 0xBF),
-        0xF1..=0xF3 => Lead::Due(3, 0x80, 0xBF),
-        0xF4 => Lead::Due(3, 0x80, 0x8F),
-        _ => Lead::Never,
-    }
-}
-
-// Whether the bytes are UTF-8. `count` further bytes of a character are due, the next of them from `low` to `high`.
-fn is_text(value: &[u8]) -> bool
-    ensures { λ r. ⌜ r ≡ text (now (value .entry)) ⌝ }
-{
-    let mut count: u8 = 0;
-    let mut low: u8 = 0x80;
-    let mut high: u8 = 0xBF;
-    let mut i = 0;
-    while i < value.len() {
-        let b = value[i];
-        if count == 0 {
-            match lead_of(b) {
-                Lead::Due(due, from, to) => {
-                    count = due;
-                    low = from;
-                    high = to;
-                    i = i + 1;
-                }
-                Lead::Never => {
-                    return false;
-                }
-            }
-        } else {
-            if b < low {
-                return false;
-            }
-            if high < b {
-                return false;
-            }
-            count = count - 1;
-            low = 0x80;
-            high = 0xBF;
-            i = i + 1;
-        }
-    }
-    count == 0
 }
 
 // Accepts a value that is text.
@@ -270,22 +187,10 @@ pub fn text_part(value: &[u8]) -> &[u8]
     &value[0..0]
 }
 
-// Puts the bytes at the front of an output that has room for them.
-fn put_bytes(out: &mut [u8], bytes: &[u8])
-    requires { ⌜ length (now bytes) ≤ length (now out) ⌝ }
-    ensures { λ _. ⌜ now (out .exit) ≡ sets (now (out .entry)) 0 (now (bytes .entry)) ⌝ }
-{
-    let mut i = 0;
-    while i < bytes.len() {
-        out[i] = bytes[i];
-        i = i + 1;
-    }
-}
-
 // Writes a value that is text.
 pub fn option_from_text(value: &[u8], out: &mut [u8]) -> Written
     ensures { λ r. ⌜ written r ≡ writeText (length (now (out .entry))) (now (value .entry)) ⌝ }
-    ensures { λ r. ⌜ now (out .exit) ≡ after (writeText (length (now (out .entry))) (now (value .entry))) (now (value .entry)) (now (out .entry)) ⌝ }
+    ensures { λ r. ⌜ now (out .exit) ≡ after (writeText (length (now (out .entry))) (now (value .entry))) 0 (now (value .entry)) (now (out .entry)) ⌝ }
 {
     if !is_text(value) {
         return Written::Refused(Refusal::BadText);
@@ -293,6 +198,5 @@ pub fn option_from_text(value: &[u8], out: &mut [u8]) -> Written
     if out.len() < value.len() {
         return Written::Refused(Refusal::NoRoom);
     }
-    put_bytes(out, value);
-    Written::Length(value.len())
+    Written::Length(put_bytes(out, 0, value))
 }

@@ -1,4 +1,2 @@
 pub mod Records
-pub mod Good
-pub mod Judging
 pub mod Held

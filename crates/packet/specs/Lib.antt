@@ -1,4 +1,4 @@
+pub mod Limits
 pub mod Packet
 pub mod Meaning
-pub mod Judge
 pub mod Shape

@@ -2,7 +2,7 @@
 use Prim.Native.Nat.{ℕ}
 use mathlib.Core.List.{List, map}
 use Rattle.rfc.specs.Message.{Message, Opt}
-use Rattle.header.specs.Class.{byteOf}
+use Rattle.class.specs.Class.{byteOf}
 use Rattle.header.specs.Header.{numberOfType}
 use Rattle.packet.specs.Packet.{bytesOf, valueOf, recordsOf}
 use Rattle.packet.specs.declared.Packet.{Packet}
@@ -20,7 +20,7 @@ meaning s p =
       type = numberOfType (p .header .«message_type»);
       code = byteOf (p .header .code);
       id = p .header .«message_id»;
-      token = bytesOf s (p .token .start) (p .token .len);
+      token = bytesOf s (p .token);
       options = map (optionOf s) (recordsOf p);
-      payload = bytesOf s (p .payload .start) (p .payload .len);
+      payload = bytesOf s (p .payload);
     }

@@ -3,9 +3,10 @@ use Prim.Native.Nat.{ℕ, _+_}
 use mathlib.Core.List.{List, [], _∷_}
 use lib.ListN.{length, take, getD, replicate}
 use lib.Dec.{leb, eqb}
-use Rattle.rfc.specs.Choice.{pick}
-use Rattle.rfc.specs.Part.{part}
+use Rattle.ground.specs.Choice.{pick}
+use Rattle.ground.specs.Part.{part}
 use Rattle.header.specs.Header.{newHeader}
+use Rattle.packet.specs.Limits.{maxOptions}
 use Rattle.packet.specs.declared.Packet.{Packet}
 use Rattle.packet.specs.declared.OptionRecord.{OptionRecord}
 use Rattle.packet.specs.declared.Range.{Range}
@@ -23,11 +24,19 @@ nowhere = record { start = 0; len = 0 }
 -- Version 1, confirmable, GET, id 0, and all else empty.
 unfoldable pub newPacket : Packet
 newPacket =
-    record { header = newHeader; token = nowhere; count = 0; options = replicate 128 none; payload = nowhere }
+    record { header = newHeader; token = nowhere; count = 0; options = replicate maxOptions none; payload = nowhere }
 
--- The bytes that a range names: those from its start where it is inside the store, as whole numbers, and else none.
-unfoldable pub bytesOf : List ℕ → ℕ → ℕ → List ℕ
-bytesOf s start len = pick (leb (start + len) (length s)) (part s start len) []
+-- The `len` bytes from `start` where their end is inside the store, as whole numbers, and else none.
+unfoldable pub bytesIn : List ℕ → ℕ → ℕ → List ℕ
+bytesIn s start len = pick (leb (start + len) (length s)) (part s start len) []
+
+-- The bytes that a range names in a store.
+abbrev pub bytesOf : List ℕ → Range → List ℕ
+bytesOf s r = bytesIn s (r .start) (r .len)
+
+-- The range of a record's value.
+abbrev pub rangeOf : OptionRecord → Range
+rangeOf r = record { start = r .start; len = r .len }
 
 -- The records in use; a count over 128 reads as 128.
 abbrev pub recordsOf : Packet → List OptionRecord
@@ -40,7 +49,7 @@ ofNumber n (r ∷ rs) = pick (eqb (r .number) n) (r ∷ ofNumber n rs) (ofNumber
 
 -- The value of a record in a store.
 abbrev pub valueOf : List ℕ → OptionRecord → List ℕ
-valueOf s r = bytesOf s (r .start) (r .len)
+valueOf s r = bytesOf s (rangeOf r)
 
 -- The number of the record at an index, if there is such a record.
 abbrev pub numberAt : List OptionRecord → ℕ → NumberAt

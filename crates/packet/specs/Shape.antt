@@ -4,7 +4,8 @@ use Prim.Native.Nat.{_<_}
 use mathlib.Core.Path.{_≡_}
 use mathlib.Core.List.{List, [], _∷_}
 use lib.ListN.{length}
-use Rattle.header.specs.Class.{byteOf}
+use Rattle.class.specs.Class.{byteOf}
+use Rattle.packet.specs.Limits.{maxOptions}
 use Rattle.packet.specs.declared.Packet.{Packet}
 use Rattle.packet.specs.declared.OptionRecord.{OptionRecord}
 
@@ -17,5 +18,5 @@ Numbers (r ∷ rs) = (r .number < 65536) × Numbers rs
 pub record Shaped (p : Packet) : Type 0 where
   pub code : byteOf (p .header .code) < 256
   pub id : p .header .«message_id» < 65536
-  pub array : length (p .options) ≡ 128
+  pub array : length (p .options) ≡ maxOptions
   pub numbers : Numbers (p .options)

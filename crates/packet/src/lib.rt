@@ -1,13 +1,12 @@
 // A packet: a header, and the token, option values and payload as ranges of one lent store of bytes (packet.rs).
 use header::Header;
+use limits::MAX_OPTIONS;
 ghost use mathlib.Core.Path.{_≡_};
 ghost use lib.ListN.{length, getD};
 ghost use lib.Dec.{ltb};
-ghost use Rattle.packet.specs.Packet.{newPacket, none, bytesOf, valueOf, recordsOf, ofNumber, numberAt};
+ghost use Rattle.packet.specs.Packet.{newPacket, none, bytesOf, rangeOf, valueOf, recordsOf, ofNumber, numberAt};
 
-mod judge;
-
-pub use judge::Judged;
+pub mod limits;
 
 // A range of the store.
 pub struct Range {
@@ -28,7 +27,7 @@ pub struct Packet {
     pub header: Header,
     pub token: Range,
     pub count: usize,
-    pub options: [OptionRecord; 128],
+    pub options: [OptionRecord; MAX_OPTIONS],
     pub payload: Range,
 }
 
@@ -45,7 +44,7 @@ impl OptionRecord {
 impl Range {
     // The bytes that the range names, as a part of the store; none where it is not inside the store.
     pub fn part<'a>(self, store: &'a [u8]) -> &'a [u8]
-        ensures { λ r. ⌜ now r ≡ bytesOf (now (store .entry)) (self .start) (self .len) ⌝ }
+        ensures { λ r. ⌜ now r ≡ bytesOf (now (store .entry)) self ⌝ }
     {
         let start = self.start as usize;
         let end = start + self.len as usize;
@@ -57,14 +56,21 @@ impl Range {
 }
 
 impl OptionRecord {
-    // The option's value, as a part of the store.
-    pub fn value<'a>(self, store: &'a [u8]) -> &'a [u8]
-        ensures { λ r. ⌜ now r ≡ bytesOf (now (store .entry)) (self .start) (self .len) ⌝ }
+    // The range of the option's value.
+    pub fn range(self) -> Range
+        ensures { λ r. ⌜ r ≡ rangeOf self ⌝ }
     {
-        let range = Range {
+        Range {
             start: self.start,
             len: self.len,
-        };
+        }
+    }
+
+    // The option's value, as a part of the store.
+    pub fn value<'a>(self, store: &'a [u8]) -> &'a [u8]
+        ensures { λ r. ⌜ now r ≡ valueOf (now (store .entry)) self ⌝ }
+    {
+        let range = self.range();
         range.part(store)
     }
 }
@@ -87,14 +93,14 @@ impl Packet {
             header: Header::new(),
             token: Range { start: 0, len: 0 },
             count: 0,
-            options: [OptionRecord::EMPTY; 128],
+            options: [OptionRecord::EMPTY; MAX_OPTIONS],
             payload: Range { start: 0, len: 0 },
         }
     }
 
     // The token, as a part of the store.
     pub fn get_token<'a>(self, store: &'a [u8]) -> &'a [u8]
-        ensures { λ r. ⌜ now r ≡ bytesOf (now (store .entry)) (self .token .start) (self .token .len) ⌝ }
+        ensures { λ r. ⌜ now r ≡ bytesOf (now (store .entry)) (self .token) ⌝ }
     {
         let token = self.token;
         token.part(store)
@@ -102,7 +108,7 @@ impl Packet {
 
     // The payload, as a part of the store.
     pub fn get_payload<'a>(self, store: &'a [u8]) -> &'a [u8]
-        ensures { λ r. ⌜ now r ≡ bytesOf (now (store .entry)) (self .payload .start) (self .payload .len) ⌝ }
+        ensures { λ r. ⌜ now r ≡ bytesOf (now (store .entry)) (self .payload) ⌝ }
     {
         let payload = self.payload;
         payload.part(store)
@@ -113,8 +119,8 @@ impl Packet {
         ensures { λ r. ⌜ r ≡ length (recordsOf self) ⌝ }
     {
         let count = self.count;
-        if 128 < count {
-            return 128;
+        if MAX_OPTIONS < count {
+            return MAX_OPTIONS;
         }
         count
     }
@@ -123,10 +129,7 @@ impl Packet {
     fn record_at(self, n: usize) -> OptionRecord
         ensures { λ r. ⌜ r ≡ getD (recordsOf self) n none ⌝ }
     {
-        let count = self.count;
-        if 128 <= n {
-            return OptionRecord::EMPTY;
-        }
+        let count = self.option_count();
         if count <= n {
             return OptionRecord::EMPTY;
         }
@@ -160,8 +163,7 @@ impl Packet {
         let mut found = 0;
         let mut i = 0;
         while i < count {
-            let record = self.options[i];
-            if record.number == number {
+            if self.options[i].number == number {
                 found = found + 1;
                 i = i + 1;
             } else {
@@ -186,10 +188,9 @@ impl Packet {
         let mut left = n;
         let mut i = 0;
         while i < count {
-            let record = self.options[i];
-            if record.number == number {
+            if self.options[i].number == number {
                 if left == 0 {
-                    return record;
+                    return self.options[i];
                 }
                 left = left - 1;
                 i = i + 1;

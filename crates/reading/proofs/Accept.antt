@@ -8,23 +8,23 @@ use lib.ListN.{length, take, drop, replicate, length-drop, length-map, take-appe
 use lib.Seq.{take-append-seam, take-all}
 use lib.Dec.{ltb, eqb}
 use borrow.Author.Tests.{ltb-false, eqb-true, eqb-false, not-false, eq-eqb}
-use Rattle.rfc.specs.Choice.{both, either}
+use Rattle.ground.specs.Choice.{both, either}
 use Rattle.rfc.specs.Message.{Opt, Message, WellFormed, Bare, layout, headerLayout, optionsLayout, payloadLayout, optionLayout}
-use Rattle.rfc.specs.Part.{Bytes}
-use Rattle.rfc.proofs.Choice.{on, on-lt, neither, not-both}
+use Rattle.ground.specs.Part.{Bytes}
+use Rattle.ground.proofs.Choice.{on, on-lt, neither, not-both}
 use Rattle.refusal.specs.Answer.{Answer, given, refused}
-use Rattle.header.specs.Header.{headerOf, rawIn}
+use Rattle.header.specs.Header.{headerOf, rawIn, versionOf, tokenOf}
 use Rattle.header.specs.declared.HeaderRaw.{HeaderRaw}
-use Rattle.header.proofs.Class.{byte-back}
+use Rattle.class.proofs.Class.{byte-back}
 use Rattle.header.proofs.Raw.{bytes-back, number-back}
-use Rattle.packet.specs.Packet.{bytesOf, recordsOf, none}
+use Rattle.packet.specs.Packet.{bytesIn, recordsOf, none}
 use Rattle.packet.specs.Meaning.{optionOf, meaning}
 use Rattle.packet.specs.declared.Packet.{Packet}
-use Rattle.reading.specs.Option.{Tail, options}
-use Rattle.reading.specs.Reading.{versionOf, tokenOf, packetOf, finished, afterHeader, reading}
-use Rattle.reading.proofs.Within.{Given, given-onward}
+use Rattle.reading.specs.Options.{Tail, options}
+use Rattle.reading.specs.Reading.{packetOf, finished, afterHeader, reading}
+use Rattle.refusal.proofs.Answers.{Given, given-onward}
 use Rattle.reading.proofs.Sound.{Follows, follows, marks, inside-bytes, inside-length, inside-are, inside-split}
-use Rattle.rfc.proofs.Part.{byte-at}
+use Rattle.ground.proofs.Part.{byte-at}
 
 -- A raw header that was read: its fields have their bits, and four bytes are there.
 pub record RawSmall (s : List ℕ) (raw : HeaderRaw) : Type 0 where
@@ -52,9 +52,9 @@ meant s raw t =
       type = raw .«ver_type_tkl» / 16 % 4;
       code = raw .code;
       id = raw .«message_id»;
-      token = bytesOf s 4 (tokenOf raw);
+      token = bytesIn s 4 (tokenOf raw);
       options = map (optionOf s) (t .records);
-      payload = bytesOf s (t .payload) (length s - t .payload);
+      payload = bytesIn s (t .payload) (length s - t .payload);
     }
 
 pub is-meant : (s : List ℕ) (raw : HeaderRaw) (t : Tail) → meaning s (packetOf s raw t) ≡ meant s raw t
@@ -66,13 +66,13 @@ is-meant s raw t =
       type = number-back (raw .«ver_type_tkl» / 16) i;
       code = byte-back (raw .code) i;
       id = raw .«message_id»;
-      token = bytesOf s 4 (tokenOf raw);
+      token = bytesIn s 4 (tokenOf raw);
       options = map (optionOf s) (records-found s raw t i);
-      payload = bytesOf s (t .payload) (length s - t .payload);
+      payload = bytesIn s (t .payload) (length s - t .payload);
     }
 
 -- The range from a position to the end names what is left there.
-pub rest-bytes : (s : List ℕ) (start : ℕ) → start ≤ length s → bytesOf s start (length s - start) ≡ drop start s
+pub rest-bytes : (s : List ℕ) (start : ℕ) → start ≤ length s → bytesIn s start (length s - start) ≡ drop start s
 rest-bytes s start h =
     inside-bytes s start (length s - start) (omega arith) ∙ take-all (length s - start) (drop start s) (rw length-drop (omega arith))
 
@@ -82,7 +82,7 @@ payload-some (x ∷ l) h = refl
 
 -- A payload that is marked, and not alone, or none: its layout is what ends the datagram.
 payload-layout : (s : List ℕ) (marked : Bool) (payload : ℕ) → payload ≤ length s → (marked ≡ false → payload ≡ length s)
-    → both marked (eqb payload (length s)) ≡ false → payloadLayout (bytesOf s payload (length s - payload)) ≡ marks marked (drop payload s)
+    → both marked (eqb payload (length s)) ≡ false → payloadLayout (bytesIn s payload (length s - payload)) ≡ marks marked (drop payload s)
 payload-layout s true payload inside unmarked alone =
     let more : 0 < length (drop payload s) = rw length-drop (omega (arith, eqb-false payload (length s) alone)) in
     rw (rest-bytes s payload inside) (payload-some (drop payload s) more)
@@ -120,7 +120,7 @@ module _ (s : List ℕ) (b : Bytes s) (raw : HeaderRaw) (small : RawSmall s raw)
       let first : v / 64 * 64 + v / 16 % 4 * 16 + v % 16 ≡ v = omega arith in
       rw (inside-length s 4 (tokenOf raw) (p .token-inside), first) (bytes-back s raw b is)
 
-  body-laid : bytesOf s 4 (tokenOf raw) ++ (optionsLayout 0 (map (optionOf s) (t .records)) ++ payloadLayout (bytesOf s (t .payload) (length s - t .payload))) ≡ drop 4 s
+  body-laid : bytesIn s 4 (tokenOf raw) ++ (optionsLayout 0 (map (optionOf s) (t .records)) ++ payloadLayout (bytesIn s (t .payload) (length s - t .payload))) ≡ drop 4 s
   body-laid =
       rw (payload-layout s (t .marked) (t .payload) (p .follows .inside) (p .follows .unmarked) (p .alone), ← p .follows .bytes)
       (sym (inside-split s 4 (tokenOf raw) (p .token-inside)))

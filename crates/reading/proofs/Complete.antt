@@ -9,20 +9,21 @@ use lib.ListN.{length, getD, take, drop, length-drop, length-append, List·getD-
 use lib.Seq.{drop-drop, drop-append-seam, take-append-seam, getD-drop, drop-length}
 use lib.Dec.{ltb, eqb}
 use borrow.Author.Tests.{lt-ltb, le-ltb, le-leb, lt-leb, eq-eqb, ne-eqb}
-use Rattle.rfc.specs.Choice.{both, either}
+use Rattle.ground.specs.Choice.{both, either}
 use Rattle.rfc.specs.Message.{Opt, Message, WellFormed, Bare, Rising, Options, layout, headerLayout, optionsLayout, payloadLayout, optionLayout, nibbleOf, extensionOf}
-use Rattle.rfc.proofs.Choice.{by-lt, by-eq}
+use Rattle.ground.proofs.Choice.{by-lt, by-eq}
 use Rattle.rfc.proofs.Message.{nibble-none, nibble-one, nibble-two, extension-none, extension-one, extension-two, nibble-small}
 use Rattle.refusal.specs.Answer.{given}
-use Rattle.packet.specs.Packet.{bytesOf}
+use Rattle.packet.specs.Packet.{bytesIn}
 use Rattle.packet.specs.Meaning.{optionOf, meaning}
 use Rattle.packet.specs.declared.Packet.{Packet}
 use Rattle.packet.specs.declared.OptionRecord.{OptionRecord}
-use Rattle.header.specs.Header.{rawBytes}
+use Rattle.header.specs.Header.{rawBytes, versionOf, tokenOf}
 use Rattle.header.specs.declared.HeaderRaw.{HeaderRaw}
 use Rattle.header.proofs.Raw.{raw-back}
-use Rattle.reading.specs.Reading.{versionOf, tokenOf, packetOf, finished, afterHeader, reading}
-use Rattle.reading.specs.Option.{option, Tail, extended, valueAt, lengthAt, optionAt, placeAt, options, end}
+use Rattle.reading.specs.Reading.{packetOf, finished, afterHeader, reading}
+use Rattle.option_reading.specs.Option.{option, extended, valueAt, lengthAt, optionAt, placeAt, end}
+use Rattle.reading.specs.Options.{Tail, options}
 use Rattle.reading.proofs.Sound.{inside-bytes}
 use Rattle.reading.proofs.Walk.{options-ended, options-more}
 use Rattle.reading.proofs.Accept.{rest-bytes, meant, is-meant}
@@ -38,7 +39,7 @@ module _ (s : List ℕ) (at : ℕ) (x rest : List ℕ) (e : drop at s ≡ x ++ r
   pub byte : (i : ℕ) → i < length x → getD s (at + i) 0 ≡ getD x i 0
   byte i h = sym (getD-drop at s i 0) ∙ (ap (λ (l : List ℕ). getD l i 0) e ∙ List·getD-append x rest 0 i h)
 
-  pub names : bytesOf s at (length x) ≡ x
+  pub names : bytesIn s at (length x) ≡ x
   names = inside-bytes s at (length x) fits ∙ (ap (take (length x)) e ∙ take-append-seam x rest)
 
 -- The extension of a number is read as that number.
@@ -133,7 +134,7 @@ pub record Reads (s : List ℕ) (room number at : ℕ) (os : List Opt) (pl : Lis
   pub tail : Tail
   pub is : options 65804 s room number at ≡ given tail
   pub means : map (optionOf s) (tail .records) ≡ os
-  pub payload : bytesOf s (tail .payload) (length s - tail .payload) ≡ pl
+  pub payload : bytesIn s (tail .payload) (length s - tail .payload) ≡ pl
   pub alone : both (tail .marked) (eqb (tail .payload) (length s)) ≡ false
 
 module _ (s : List ℕ) where
@@ -238,8 +239,8 @@ module _ (m : Message) (w : WellFormed m) where
   means-it =
       let version : versionOf (raw m) ≡ m .version = version-is ∙ sym (w .version) in
       let type : (raw m) .«ver_type_tkl» / 16 % 4 ≡ m .type = omega (arith, w .type, w .token-length) in
-      let token : bytesOf s 4 (tokenOf (raw m)) ≡ m .token =
-      ap (bytesOf s 4) token-is ∙ names s 4 (m .token) (optionsLayout 0 (m .options) ++ payloadLayout (m .payload)) from long in
+      let token : bytesIn s 4 (tokenOf (raw m)) ≡ m .token =
+      ap (bytesIn s 4) token-is ∙ names s 4 (m .token) (optionsLayout 0 (m .options) ++ payloadLayout (m .payload)) from long in
       λ i.
       record { version = version i; type = type i; code = m .code; id = m .id; token = token i; options = tail-reads .means i; payload = tail-reads .payload i }
 

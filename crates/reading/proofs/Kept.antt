@@ -7,21 +7,22 @@ use native.Mathlib.Omega.{arith}
 use lib.ListN.{length, replicate, length-append, length-replicate}
 use lib.Dec.{ltb, eqb}
 use borrow.Author.Tests.{le-ltb, ltb-false}
-use Rattle.rfc.specs.Choice.{both, either}
-use Rattle.rfc.specs.Part.{Bytes}
-use Rattle.rfc.proofs.Choice.{on, on-lt, neither, none-of}
-use Rattle.header.specs.Header.{headerOf, rawIn}
+use Rattle.ground.specs.Choice.{both, either}
+use Rattle.ground.specs.Part.{Bytes}
+use Rattle.ground.proofs.Choice.{on, on-lt, neither, none-of}
+use Rattle.header.specs.Header.{headerOf, rawIn, versionOf, tokenOf}
 use Rattle.header.specs.declared.HeaderRaw.{HeaderRaw}
-use Rattle.header.proofs.Class.{byte-back}
+use Rattle.class.proofs.Class.{byte-back}
 use Rattle.packet.specs.Packet.{none, recordsOf}
-use Rattle.packet.specs.Judge.{falling, badValue, badValues, badPacket}
+use Rattle.judging.specs.Judge.{falling, badValue, badValues, badPacket}
 use Rattle.packet.specs.Shape.{Numbers, Shaped}
 use Rattle.packet.specs.declared.Packet.{Packet}
 use Rattle.packet.specs.declared.OptionRecord.{OptionRecord}
-use Rattle.packet.proofs.Good.{not-bad}
-use Rattle.reading.specs.Option.{Tail, options, placeAt, before, end}
-use Rattle.reading.specs.Reading.{versionOf, tokenOf, packetOf, finished, longest, afterHeader, reading}
-use Rattle.reading.proofs.Within.{Given, given-onward}
+use Rattle.judging.proofs.Good.{not-bad}
+use Rattle.option_reading.specs.Option.{placeAt, end}
+use Rattle.reading.specs.Options.{Tail, options, before}
+use Rattle.reading.specs.Reading.{packetOf, finished, longest, afterHeader, reading}
+use Rattle.refusal.proofs.Answers.{Given, given-onward}
 use Rattle.reading.proofs.Sound.{Stands, stands, Ended, Laid, given-place}
 use Rattle.reading.proofs.Accept.{records-found, RawSmall, raw-small}
 

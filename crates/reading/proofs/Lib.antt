@@ -1,4 +1,3 @@
-pub mod Within
 pub mod Walk
 pub mod Sound
 pub mod Accept

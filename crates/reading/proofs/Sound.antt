@@ -9,16 +9,17 @@ use lib.ListN.{length, getD, take, drop, length-drop, take-append-drop, drop-of-
 use lib.Seq.{drop-cons, drop-drop, length-take-le, drop-length}
 use borrow.Author.Tests.{le-leb}
 use Rattle.rfc.specs.Message.{nibbleOf, extensionOf, optionLayout, optionsLayout, Rising, Options}
-use Rattle.rfc.specs.Part.{Bytes}
-use Rattle.rfc.proofs.Choice.{on-lt, on-le, on-eq}
+use Rattle.ground.specs.Part.{Bytes}
+use Rattle.ground.proofs.Choice.{on-lt, on-le, on-eq}
 use Rattle.rfc.proofs.Message.{nibble-none, nibble-one, nibble-two, extension-none, extension-one, extension-two}
-use Rattle.rfc.proofs.Part.{byte-at, bytes-take, bytes-drop}
+use Rattle.ground.proofs.Part.{byte-at, bytes-take, bytes-drop}
 use Rattle.refusal.specs.Answer.{Answer, given, refused}
-use Rattle.packet.specs.Packet.{bytesOf}
+use Rattle.packet.specs.Packet.{bytesIn}
 use Rattle.packet.specs.Meaning.{optionOf}
 use Rattle.packet.specs.declared.OptionRecord.{OptionRecord}
-use Rattle.reading.specs.Option.{Value, Place, ended, option, Tail, extended, valueAt, lengthAt, optionAt, placeAt, options, onPlace, before, end}
-use Rattle.reading.proofs.Within.{Given, given-onward}
+use Rattle.option_reading.specs.Option.{Value, Place, ended, option, extended, valueAt, lengthAt, optionAt, placeAt, end}
+use Rattle.reading.specs.Options.{Tail, options, onPlace, before}
+use Rattle.refusal.proofs.Answers.{Given, given-onward}
 
 -- The byte at a position and what follows.
 byte-first : (s : List ℕ) (at : ℕ) → at < length s → drop at s ≡ getD s at 0 ∷ drop (at + 1) s
@@ -81,17 +82,17 @@ module _ (s : List ℕ) (b : Bytes s) (at : ℕ) (h : at ≤ length s) where
       (λ f. tt)))
 
 -- The value of a range that is inside.
-pub inside-bytes : (s : List ℕ) (start len : ℕ) → start + len ≤ length s → bytesOf s start len ≡ take len (drop start s)
-unfolding bytesOf
+pub inside-bytes : (s : List ℕ) (start len : ℕ) → start + len ≤ length s → bytesIn s start len ≡ take len (drop start s)
+unfolding bytesIn
 inside-bytes s start len h = rw (le-leb (start + len) (length s) h)
 
-pub inside-length : (s : List ℕ) (start len : ℕ) → start + len ≤ length s → length (bytesOf s start len) ≡ len
+pub inside-length : (s : List ℕ) (start len : ℕ) → start + len ≤ length s → length (bytesIn s start len) ≡ len
 inside-length s start len h = rw (inside-bytes s start len h) (length-take-le len (drop start s) (rw length-drop (omega arith)))
 
-pub inside-are : (s : List ℕ) (start len : ℕ) → Bytes s → start + len ≤ length s → Bytes (bytesOf s start len)
+pub inside-are : (s : List ℕ) (start len : ℕ) → Bytes s → start + len ≤ length s → Bytes (bytesIn s start len)
 inside-are s start len b h = rw (inside-bytes s start len h) (bytes-take len (drop start s) (bytes-drop start s b))
 
-pub inside-split : (s : List ℕ) (start len : ℕ) → start + len ≤ length s → drop start s ≡ bytesOf s start len ++ drop (start + len) s
+pub inside-split : (s : List ℕ) (start len : ℕ) → start + len ≤ length s → drop start s ≡ bytesIn s start len ++ drop (start + len) s
 inside-split s start len h =
     rw (inside-bytes s start len h) (sym (take-append-drop len (drop start s)) ∙ ap (λ (l : List ℕ). take len (drop start s) ++ l) (drop-drop len start s))
 
@@ -131,7 +132,7 @@ module _ (longest : ℕ) (s : List ℕ) (b : Bytes s) where
       let first : getD s at 0 ≡ nibbleOf (delta .value) * 16 + nibbleOf (len .value) = rw (d .says, l .says) (omega arith) in
       record {
         bytes = rw (n, inside-length s (len .next) (len .value) ends, ← first, byte-first s at h, d .bytes, l .bytes, inside-split s (len .next) (len .value) ends)
-            (ap (λ (l : List ℕ). getD s at 0 ∷ l) (sym (split-two (extensionOf (delta .value)) (extensionOf (len .value)) (bytesOf s (len .next) (len .value)) (drop (len .next + len .value) s))));
+            (ap (λ (l : List ℕ). getD s at 0 ∷ l) (sym (split-two (extensionOf (delta .value)) (extensionOf (len .value)) (bytesIn s (len .next) (len .value)) (drop (len .next + len .value) s))));
         rises = omega arith;
         low = low;
         short = l .small;

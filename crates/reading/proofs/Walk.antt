@@ -3,18 +3,19 @@ use Prim.Native.Nat.{ℕ, zero, suc, _+_, _-_, _<_, _≤_}
 use mathlib.Core.Path.{_≡_, refl, sym, ap, _∙_}
 use mathlib.Core.Bool.{Bool, true, false}
 use lib.Dec.{eqb}
-use Rattle.rfc.specs.Choice.{both}
-use Rattle.header.specs.Header.{headerOf}
+use Rattle.ground.specs.Choice.{both}
+use Rattle.header.specs.Header.{headerOf, tokenOf}
 use Rattle.header.specs.declared.HeaderRaw.{HeaderRaw}
-use Rattle.reading.specs.Reading.{tokenOf, packetOf, finished}
+use Rattle.reading.specs.Reading.{packetOf, finished}
 use mathlib.Core.List.{List, [], _∷_, _++_, append-assoc, append-nil}
 use native.Mathlib.Omega.{arith}
 use lib.ListN.{length, set, replicate, length-append}
 use lib.Seq.{set-at}
-use Rattle.refusal.specs.Answer.{Answer, given, refused}
+use Rattle.refusal.specs.Answer.{Answer, given, refused, onward}
 use Rattle.packet.specs.Packet.{none}
 use Rattle.packet.specs.declared.OptionRecord.{OptionRecord}
-use Rattle.reading.specs.Option.{ended, option, Tail, onward, before, options, placeAt, end}
+use Rattle.option_reading.specs.Option.{ended, option, placeAt, end}
+use Rattle.reading.specs.Options.{Tail, before, options}
 
 -- Records put before the tail of an answer.
 abbrev pub ahead : List OptionRecord → Answer Tail → Answer Tail

@@ -1,33 +1,15 @@
--- The answers of the reader's own functions, in the words of the definitions.
-use Prim.Native.Nat.{ℕ, _+_, _<_, _≤_}
+-- What the header of a datagram decides, and what it leaves to the options.
+use Prim.Native.Nat.{ℕ, _+_, _≤_}
 use mathlib.Core.Path.{_≡_}
 use mathlib.Core.Bool.{Bool}
 use mathlib.Core.List.{List}
-use lib.ListN.{length, getD}
-use Rattle.refusal.specs.Answer.{Answer, given, refused}
-use Rattle.refusal.specs.Number.{numberOf}
+use lib.ListN.{length}
+use Rattle.refusal.specs.Answer.{Answer, given, refused, onward}
 use Rattle.header.specs.declared.HeaderRaw.{HeaderRaw}
 use Rattle.packet.specs.declared.Packet.{Packet}
-use Rattle.reading.specs.Option.{Value, Place, ended, option, onward, options}
-use Rattle.reading.specs.Reading.{longest, tokenOf, finished}
-use Rattle.reading.specs.declared.Extension.{Extension}
-use Rattle.reading.specs.declared.Extension.the-variants.{Value as Is, Refused as Not}
-use Rattle.reading.specs.declared.Found.{Found}
-use Rattle.reading.specs.declared.Found.the-variants.{End, Option, Refused}
-
--- A byte that was read: the element, and that it is small.
-pub record ByteAt (s : List ℕ) (i r : ℕ) : Type 0 where
-  pub is : r ≡ getD s i 0
-  pub small : r < 256
-
-abbrev pub extendedOf : Extension → Answer Value
-extendedOf (Is value next) = given (record { value = value; next = next })
-extendedOf (Not e) = refused (numberOf e)
-
-abbrev pub foundOf : Found → Answer Place
-foundOf (End marked payload) = given (ended marked payload)
-foundOf (Option r) = given (option r)
-foundOf (Refused e) = refused (numberOf e)
+use Rattle.reading.specs.Options.{options}
+use Rattle.header.specs.Header.{tokenOf}
+use Rattle.reading.specs.Reading.{longest, finished}
 
 -- A good header has its token within a datagram that is not too long.
 abbrev pub Roomy : List ℕ → Answer HeaderRaw → Type 0

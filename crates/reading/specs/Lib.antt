@@ -1,3 +1,3 @@
-pub mod Answers
-pub mod Option
+pub mod Options
 pub mod Reading
+pub mod Answers

@@ -1,28 +1,23 @@
 -- Reading a datagram, plain and strict: the order of refusals, and the packet of an accepted one.
-use Prim.Native.Nat.{ℕ, _+_, _-_, _%_, _/_}
+use Prim.Native.Nat.{ℕ, _+_, _-_}
+use mathlib.Core.Path.{_≡_}
 use mathlib.Core.Bool.{Bool, not}
 use mathlib.Core.List.{List, _++_}
 use lib.ListN.{length, replicate}
 use lib.Dec.{ltb, eqb}
-use Rattle.rfc.specs.Choice.{pick, both, either}
-use Rattle.refusal.specs.Answer.{Answer, given, refused, outcome}
-use Rattle.header.specs.Header.{headerOf, rawIn}
+use Rattle.ground.specs.Choice.{pick, both, either}
+use Rattle.refusal.specs.Answer.{Answer, given, refused, onward, outcome, Beside, beside}
+use Rattle.header.specs.Header.{versionOf, tokenOf, headerOf, rawIn}
 use Rattle.header.specs.declared.HeaderRaw.{HeaderRaw}
+use Rattle.packet.specs.Limits.{maxStore, maxOptions, maxValue, maxPlainValue}
 use Rattle.packet.specs.Packet.{none, newPacket}
 use Rattle.packet.specs.declared.Packet.{Packet}
-use Rattle.reading.specs.Option.{Tail, onward, options}
+use Rattle.reading.specs.Options.{Tail, options}
 use Rattle.reading.specs.declared.Decoded.{Decoded}
 
 -- The longest value of an option: 65535 bytes plain, 65804 strict.
 abbrev pub longest : Bool → ℕ
-longest strict = pick strict 65804 65535
-
--- Version and token length, from the first byte of a header.
-abbrev pub versionOf : HeaderRaw → ℕ
-versionOf raw = raw .«ver_type_tkl» / 64
-
-abbrev pub tokenOf : HeaderRaw → ℕ
-tokenOf raw = raw .«ver_type_tkl» % 16
+longest strict = pick strict maxValue maxPlainValue
 
 -- The packet of a datagram that was read: its token after the header, its records in the array's first places and the empty
 -- record in the others, its payload to the end.
@@ -32,7 +27,7 @@ packetOf s raw t =
       header = headerOf raw;
       token = record { start = 4; len = tokenOf raw };
       count = length (t .records);
-      options = t .records ++ replicate (128 - length (t .records)) none;
+      options = t .records ++ replicate (maxOptions - length (t .records)) none;
       payload = record { start = t .payload; len = length s - t .payload };
     }
 
@@ -47,21 +42,16 @@ afterHeader strict s raw =
     pick (both strict (not (eqb (versionOf raw) 1))) (refused 7)
     (pick (either (ltb 8 (tokenOf raw)) (ltb (length s) (4 + tokenOf raw))) (refused 2)
     (pick (both strict (both (eqb (raw .code) 0) (either (ltb 4 (length s)) (not (eqb (tokenOf raw) 0))))) (refused 8)
-    (onward (options (longest strict) s 128 0 (4 + tokenOf raw)) (finished strict s raw))))
+    (onward (options (longest strict) s maxOptions 0 (4 + tokenOf raw)) (finished strict s raw))))
 
 -- Reading: 10, 1, then what follows the header.
 unfoldable pub reading : Bool → List ℕ → Answer Packet
-reading strict s = pick (ltb 70000 (length s)) (refused 10) (onward (rawIn s) (afterHeader strict s))
+reading strict s = pick (ltb maxStore (length s)) (refused 10) (onward (rawIn s) (afterHeader strict s))
 
--- A reader's answer: how it ended, and the packet beside it.
-pub record Read : Type 0 where
-  pub answer : Answer (Unit {0})
-  pub packet : Packet
+-- The answer of a reader: how it ended, and the packet beside it.
+abbrev pub decoded : Decoded → Beside Packet
+decoded d = record { answer = outcome (d .outcome); value = d .packet }
 
-abbrev pub decoded : Decoded → Read
-decoded d = record { answer = outcome (d .outcome); packet = d .packet }
-
--- An accepted datagram gives its packet; a refused one the new packet beside the number.
-abbrev pub readOf : Answer Packet → Read
-readOf (given p) = record { answer = given tt; packet = p }
-readOf (refused k) = record { answer = refused k; packet = newPacket }
+-- What reading promises: an accepted datagram gives its packet; beside a refusal stands the new packet.
+abbrev pub FromBytes : Bool → List ℕ → Decoded → Type 0
+FromBytes strict s d = decoded d ≡ beside newPacket (reading strict s)

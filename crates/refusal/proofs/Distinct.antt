@@ -1,48 +1,51 @@
 -- No two refusals have one number: a number leads back to its refusal.
 use Prim.Native.Nat.{ℕ}
 use mathlib.Core.Path.{_≡_, refl, sym, ap, _∙_}
-use lib.ListN.{getD}
-use Rattle.refusal.specs.Answer.{Answer, given, refused, written, outcome}
+use mathlib.Core.List.{List, [], _∷_}
+use lib.Dec.{T, eqb}
+use Rattle.ground.specs.Choice.{pick}
+use Rattle.ground.specs.Table.{listed}
+use Rattle.refusal.specs.Answer.{written, outcome}
 use Rattle.refusal.specs.declared.Written.{Written}
 use Rattle.refusal.specs.declared.Written.the-variants.{Length, Refused}
 use Rattle.refusal.specs.declared.Outcome.{Outcome}
 use Rattle.refusal.specs.declared.Outcome.the-variants.{Done, Refused as Not}
-use mathlib.Core.List.{List, [], _∷_}
-use Rattle.refusal.specs.Number.{numberOf}
+use Rattle.refusal.specs.Number.{numberOf, refusals, numbers}
 use Rattle.refusal.specs.declared.Refusal.{Refusal}
 use Rattle.refusal.specs.declared.Refusal.the-variants.{InvalidHeader, InvalidTokenLength, InvalidOptionDelta, InvalidOptionLength, InvalidPacketLength, TooManyOptions, WrongVersion, EmptyCarries, MarkerAlone, TooLong, BadRecord, NoRoom, BadUint, BadBlockSize, BadText, BadOption, BlockNumber, HeaderNotWritten}
 
--- The refusals in the order of their numbers, from 1; place 0 holds no number's refusal.
-inOrder : List Refusal
-inOrder = InvalidHeader ∷ InvalidHeader ∷ InvalidTokenLength ∷ InvalidOptionDelta ∷ InvalidOptionLength ∷ InvalidPacketLength ∷ TooManyOptions ∷ WrongVersion ∷ EmptyCarries ∷ MarkerAlone ∷ TooLong ∷ BadRecord ∷ NoRoom ∷ BadUint ∷ BadBlockSize ∷ BadText ∷ BadOption ∷ BlockNumber ∷ HeaderNotWritten ∷ []
+-- The first of these refusals that has a number.
+among : List Refusal → ℕ → Refusal
+among [] n = InvalidHeader
+among (r ∷ rs) n = pick (eqb n (numberOf r)) r (among rs n)
 
--- The refusal of a number.
-refusalOf : ℕ → Refusal
-refusalOf n = getD inOrder n InvalidHeader
-
-back : (r : Refusal) → refusalOf (numberOf r) ≡ r
-unfolding refusalOf inOrder
-back InvalidHeader = refl
-back InvalidTokenLength = refl
-back InvalidOptionDelta = refl
-back InvalidOptionLength = refl
-back InvalidPacketLength = refl
-back TooManyOptions = refl
-back WrongVersion = refl
-back EmptyCarries = refl
-back MarkerAlone = refl
-back TooLong = refl
-back BadRecord = refl
-back NoRoom = refl
-back BadUint = refl
-back BadBlockSize = refl
-back BadText = refl
-back BadOption = refl
-back BlockNumber = refl
-back HeaderNotWritten = refl
+-- Its number leads back to a refusal, and is listed: computed, case by case.
+known : (r : Refusal) → (among refusals (numberOf r) ≡ r) × T (listed (numberOf r) numbers)
+unfolding among
+known InvalidHeader = (refl, tt)
+known InvalidTokenLength = (refl, tt)
+known InvalidOptionDelta = (refl, tt)
+known InvalidOptionLength = (refl, tt)
+known InvalidPacketLength = (refl, tt)
+known TooManyOptions = (refl, tt)
+known WrongVersion = (refl, tt)
+known EmptyCarries = (refl, tt)
+known MarkerAlone = (refl, tt)
+known TooLong = (refl, tt)
+known BadRecord = (refl, tt)
+known NoRoom = (refl, tt)
+known BadUint = (refl, tt)
+known BadBlockSize = (refl, tt)
+known BadText = (refl, tt)
+known BadOption = (refl, tt)
+known BlockNumber = (refl, tt)
+known HeaderNotWritten = (refl, tt)
 
 pub distinct : (a b : Refusal) → numberOf a ≡ numberOf b → a ≡ b
-distinct a b e = sym (back a) ∙ (ap refusalOf e ∙ back b)
+distinct a b e = sym (known a .0) ∙ (ap (among refusals) e ∙ known b .0)
+
+pub number-listed : (r : Refusal) → T (listed (numberOf r) numbers)
+number-listed r = known r .1
 
 -- An answer in the words of the promises is that of one value only.
 pub one-written : (a b : Written) → written a ≡ written b → a ≡ b

@@ -1,5 +1,6 @@
--- The number of each refusal: the table of the refusal numbers, 1 to 18.
+-- The number of each refusal: the page of refusals.
 use Prim.Native.Nat.{ℕ}
+use mathlib.Core.List.{List, [], _∷_, map}
 use Rattle.refusal.specs.declared.Refusal.{Refusal}
 use Rattle.refusal.specs.declared.Refusal.the-variants.{InvalidHeader, InvalidTokenLength, InvalidOptionDelta, InvalidOptionLength, InvalidPacketLength, TooManyOptions, WrongVersion, EmptyCarries, MarkerAlone, TooLong, BadRecord, NoRoom, BadUint, BadBlockSize, BadText, BadOption, BlockNumber, HeaderNotWritten}
 
@@ -22,3 +23,12 @@ numberOf BadText = 15
 numberOf BadOption = 16
 numberOf BlockNumber = 17
 numberOf HeaderNotWritten = 18
+
+-- Every refusal, in the order of their numbers.
+abbrev pub refusals : List Refusal
+refusals =
+    InvalidHeader ∷ InvalidTokenLength ∷ InvalidOptionDelta ∷ InvalidOptionLength ∷ InvalidPacketLength ∷ TooManyOptions ∷ WrongVersion ∷ EmptyCarries ∷ MarkerAlone ∷ TooLong ∷ BadRecord ∷ NoRoom ∷ BadUint ∷ BadBlockSize ∷ BadText ∷ BadOption ∷ BlockNumber ∷ HeaderNotWritten ∷ []
+
+-- The numbers that there are.
+abbrev pub numbers : List ℕ
+numbers = map numberOf refusals

@@ -10,12 +10,13 @@ use lib.ListN.{length, length-append, length-map}
 use lib.Seq.{append-snoc, take-append-seam, getD-append-seam}
 use borrow.Author.Count.{below-none, below-more}
 use borrow.Author.Tests.{lt-ltb, le-ltb}
-use Rattle.rfc.specs.Table.{listed}
-use Rattle.rfc.proofs.Choice.{on, on-lt, by-lt}
+use Rattle.ground.specs.Table.{listed}
+use Rattle.ground.proofs.Choice.{on, on-lt, by-lt}
 use Rattle.refusal.specs.Number.{numberOf}
 use Rattle.refusal.proofs.Distinct.{distinct}
+use Rattle.packet.specs.Limits.{maxStore}
 use Rattle.packet.specs.Packet.{none, recordsOf}
-use Rattle.packet.specs.Judge.{badPacket}
+use Rattle.judging.specs.Judge.{badPacket}
 use Rattle.packet.specs.declared.Packet.{Packet}
 use Rattle.packet.specs.declared.OptionRecord.{OptionRecord}
 use Rattle.register.specs.Register.{breaks}
@@ -75,7 +76,7 @@ module _ (store : ℕ) (p : Packet) where
   -- The cause of an answer.
   abbrev Told : Check → Type 0
   Told passes = Sound store p × Right (recordsOf p) (length (recordsOf p))
-  Told (refused k) = ((k ≡ 10) × (70000 < store)) ⊎ ((k ≡ 11) × ((store ≤ 70000) × (badPacket store p ≡ true)))
+  Told (refused k) = ((k ≡ 10) × (maxStore < store)) ⊎ ((k ≡ 11) × ((store ≤ maxStore) × (badPacket store p ≡ true)))
   Told (refusedAt k i) = (k ≡ 16) × (Sound store p × First (recordsOf p) i)
 
   beside : Sound store p → (a : Check) → Says (recordsOf p) a → Told a
@@ -86,13 +87,13 @@ module _ (store : ℕ) (p : Packet) where
   told : Told (checking store p)
   unfolding checking
   told =
-      on-lt Told 70000 store (λ long. inl (refl, long))
+      on-lt Told maxStore store (λ long. inl (refl, long))
       (λ short. on Told (badPacket store p) (λ bad. inr (refl, (short, bad)))
       (λ good. beside (record { short = short; good = good }) (firstBreak [] (recordsOf p)) (of-all (recordsOf p))))
 
   walked : Sound store p → checking store p ≡ firstBreak [] (recordsOf p)
   unfolding checking
-  walked h = rw (le-ltb 70000 store (h .short), h .good)
+  walked h = rw (le-ltb maxStore store (h .short), h .good)
 
   -- A packet passes exactly when each of its records keeps to the register.
   pub passes-then : checking store p ≡ passes → Sound store p × Right (recordsOf p) (length (recordsOf p))
@@ -109,16 +110,16 @@ module _ (store : ℕ) (p : Packet) where
   named-when i h f = walked h ∙ names-first (recordsOf p) i _ (of-all (recordsOf p)) f
 
   -- 10 is given exactly for a store over 70,000 bytes, and 11 exactly for any other packet with a bad record.
-  pub refused-then : (k : ℕ) → checking store p ≡ refused k → ((k ≡ 10) × (70000 < store)) ⊎ ((k ≡ 11) × ((store ≤ 70000) × (badPacket store p ≡ true)))
+  pub refused-then : (k : ℕ) → checking store p ≡ refused k → ((k ≡ 10) × (maxStore < store)) ⊎ ((k ≡ 11) × ((store ≤ maxStore) × (badPacket store p ≡ true)))
   refused-then k e = subst Told e told
 
-  pub too-long-when : 70000 < store → checking store p ≡ refused 10
+  pub too-long-when : maxStore < store → checking store p ≡ refused 10
   unfolding checking
-  too-long-when h = rw (lt-ltb 70000 store h)
+  too-long-when h = rw (lt-ltb maxStore store h)
 
-  pub bad-when : store ≤ 70000 → badPacket store p ≡ true → checking store p ≡ refused 11
+  pub bad-when : store ≤ maxStore → badPacket store p ≡ true → checking store p ≡ refused 11
   unfolding checking
-  bad-when h b = rw (le-ltb 70000 store h, b)
+  bad-when h b = rw (le-ltb maxStore store h, b)
 
 -- An answer in the words of the promise is that of one value only.
 pub one-checked : (a b : Checked) → checked a ≡ checked b → a ≡ b

@@ -9,18 +9,14 @@ use lib.Dec.{T, T-not}
 use lib.ListN.{length, drop, getD, length-map, drop-of-length-le, List·getD-map}
 use lib.Seq.{drop-cons}
 use borrow.Author.Tests.{eq-eqb, ne-eqb}
-use Rattle.rfc.specs.Table.{listed, once}
-use Rattle.rfc.proofs.Choice.{on-eq}
-use Rattle.rfc.proofs.Table.{both-left, both-right, entry-listed}
+use Rattle.ground.specs.Table.{listed, once}
+use Rattle.ground.proofs.Choice.{on-eq}
+use Rattle.ground.proofs.Table.{both-left, both-right, entry-listed}
 use Rattle.packet.specs.declared.OptionRecord.{OptionRecord}
-use Rattle.register.specs.Register.{row, register, rowIn, breaks}
+use Rattle.register.specs.Register.{register, noRow, rowIn, breaks}
 use Rattle.register.specs.declared.row.Listing.{Listing}
 use Rattle.register.specs.declared.row.Row.{Row}
 use Rattle.register.specs.declared.row.Listing.the-variants.{Listed, Unlisted}
-
--- The row of no option: what stands past the last.
-abbrev pub noRow : Row
-noRow = row 0 0 0 false
 
 -- What is left of the rows from a place on: the first of them is the number's; it is not; nothing is left.
 module _ (n i : ℕ) (rs : List Row) where

@@ -7,12 +7,12 @@ use native.Mathlib.Omega.{arith}
 use lib.ListN.{length, drop, length-append}
 use lib.Dec.{ltb, eqb}
 use borrow.Author.Tests.{lt-ltb, ltb-false, eq-eqb, ne-eqb}
-use Rattle.rfc.specs.Choice.{both, either}
-use Rattle.rfc.specs.Table.{listed}
-use Rattle.rfc.proofs.Choice.{by-eq}
-use Rattle.packet.specs.Judge.{falling}
+use Rattle.ground.specs.Choice.{both, either}
+use Rattle.ground.specs.Table.{listed}
+use Rattle.ground.proofs.Choice.{by-eq}
+use Rattle.judging.specs.Judge.{falling}
 use Rattle.packet.specs.declared.OptionRecord.{OptionRecord}
-use Rattle.rfc.proofs.Choice.{either-right, neither}
+use Rattle.ground.proofs.Choice.{either-right, neither}
 use Rattle.register.specs.Register.{breaks}
 use Rattle.register.specs.Check.{passes, refusedAt, firstBreak}
 

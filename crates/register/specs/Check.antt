@@ -3,11 +3,12 @@ use Prim.Native.Nat.{ℕ}
 use mathlib.Core.List.{List, [], _∷_, _++_}
 use lib.ListN.{length}
 use lib.Dec.{ltb}
-use Rattle.rfc.specs.Choice.{pick}
-use Rattle.rfc.specs.Table.{listed}
+use Rattle.ground.specs.Choice.{pick}
+use Rattle.ground.specs.Table.{listed}
 use Rattle.refusal.specs.Number.{numberOf}
+use Rattle.packet.specs.Limits.{maxStore}
 use Rattle.packet.specs.Packet.{recordsOf}
-use Rattle.packet.specs.Judge.{badPacket}
+use Rattle.judging.specs.Judge.{badPacket}
 use Rattle.packet.specs.declared.Packet.{Packet}
 use Rattle.packet.specs.declared.OptionRecord.{OptionRecord}
 use Rattle.register.specs.Register.{breaks}
@@ -36,5 +37,5 @@ firstBreak earlier (r ∷ rs) =
 -- A store over 70,000 bytes gives 10 first, then any bad record 11, then the first record that breaks the register 16.
 unfoldable pub checking : ℕ → Packet → Check
 checking store p =
-    pick (ltb 70000 store) (refused 10)
+    pick (ltb maxStore store) (refused 10)
     (pick (badPacket store p) (refused 11) (firstBreak [] (recordsOf p)))

@@ -4,9 +4,10 @@ use mathlib.Core.Path.{_≡_}
 use mathlib.Core.Bool.{Bool, true, false}
 use mathlib.Core.List.{List, map}
 use lib.ListN.{length, take, getD}
-use Rattle.rfc.specs.Table.{listed}
+use Rattle.ground.specs.Table.{listed}
+use Rattle.packet.specs.Limits.{maxStore}
 use Rattle.packet.specs.Packet.{none}
-use Rattle.packet.specs.Judge.{badPacket}
+use Rattle.judging.specs.Judge.{badPacket}
 use Rattle.packet.specs.declared.Packet.{Packet}
 use Rattle.packet.specs.declared.OptionRecord.{OptionRecord}
 use Rattle.register.specs.Register.{breaks}
@@ -31,5 +32,5 @@ pub record First (rs : List OptionRecord) (i : ℕ) : Type 0 where
 
 -- What a packet keeps to before its records are looked at: a store of at most 70,000 bytes, and no bad record.
 pub record Sound (store : ℕ) (p : Packet) : Type 0 where
-  pub short : store ≤ 70000
+  pub short : store ≤ maxStore
   pub good : badPacket store p ≡ false

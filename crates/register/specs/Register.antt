@@ -3,7 +3,7 @@ use Prim.Native.Nat.{ℕ}
 use mathlib.Core.Bool.{Bool, true, false, not}
 use mathlib.Core.List.{List, [], _∷_}
 use lib.Dec.{ltb, eqb}
-use Rattle.rfc.specs.Choice.{pick, both, either}
+use Rattle.ground.specs.Choice.{pick, both, either}
 use Rattle.rfc.specs.Option.{critical}
 use Rattle.packet.specs.declared.OptionRecord.{OptionRecord}
 use Rattle.register.specs.declared.row.Row.{Row}
@@ -36,6 +36,10 @@ register =
     row 39 1 255 false ∷
     row 60 0 4 false ∷
     []
+
+-- The row of no option: what stands past the last.
+abbrev pub noRow : Row
+noRow = row 0 0 0 false
 
 -- The row of a number among rows.
 abbrev pub rowIn : ℕ → List Row → Listing

@@ -1,6 +1,7 @@
 // The register of options: what an option's number says, and the check of a packet's options.
-use packet::Judged;
+use judging::Judged;
 use packet::Packet;
+use packet::limits::MAX_STORE;
 use refusal::Refusal;
 use row::breaks;
 ghost use mathlib.Core.Path.{_≡_};
@@ -9,10 +10,11 @@ ghost use mathlib.Core.List.{[]};
 ghost use Prim.Native.Nat.{_≤_};
 ghost use lib.ListN.{length};
 ghost use lib.Dec.{ltb, eqb};
-ghost use Rattle.rfc.specs.Choice.{both};
+ghost use Rattle.ground.specs.Choice.{both};
 ghost use Rattle.rfc.specs.Option.{critical, unsafe, noCacheKey};
 ghost use Rattle.packet.specs.Packet.{recordsOf};
-ghost use Rattle.packet.specs.Judge.{falling};
+ghost use Rattle.packet.specs.Limits.{maxOptions};
+ghost use Rattle.judging.specs.Judge.{falling};
 ghost use Rattle.register.specs.Check.{checked, checking, firstBreak};
 
 mod row;
@@ -50,10 +52,10 @@ pub enum Checked {
 pub fn check(packet: Packet, store: &[u8]) -> Checked
     ensures { λ r. ⌜ checked r ≡ checking (length (now (store .entry))) packet ⌝ }
 {
-    if 70000 < store.len() {
+    if MAX_STORE < store.len() {
         return Checked::Refused(Refusal::TooLong);
     }
-    match packet.judged(store.len()) {
+    match judging::judge(packet, store.len()) {
         Judged::BadRecord => Checked::Refused(Refusal::BadRecord),
         Judged::OptionsSize(_) => first_break(packet),
     }
@@ -62,7 +64,7 @@ pub fn check(packet: Packet, store: &[u8]) -> Checked
 // The first record that breaks the register. Since the numbers never fall, an earlier record has a record's number
 // exactly when the one before it has.
 fn first_break(packet: Packet) -> Checked
-    requires { ⌜ (packet .count ≤ 128) × (falling 0 (recordsOf packet) ≡ Bool.false) ⌝ }
+    requires { ⌜ (packet .count ≤ maxOptions) × (falling 0 (recordsOf packet) ≡ Bool.false) ⌝ }
     ensures { λ r. ⌜ checked r ≡ firstBreak [] (recordsOf packet) ⌝ }
 {
     let count = packet.count;

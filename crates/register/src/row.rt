@@ -2,7 +2,9 @@
 use packet::OptionRecord;
 use tables::option_number::*;
 ghost use mathlib.Core.Path.{_≡_};
-ghost use Rattle.register.specs.Register.{register, rowIn, breaksRow, breaks};
+ghost use Prim.Native.Nat.{_<_};
+ghost use lib.ListN.{length, getD};
+ghost use Rattle.register.specs.Register.{register, noRow, rowIn, breaksRow, breaks};
 
 // A listed option: its number, its shortest and its longest value, and whether a packet may have several.
 pub struct Row(pub u16, pub u32, pub u32, pub bool);
@@ -34,13 +36,21 @@ const REGISTER: [Row; 18] = [
     Row(SIZE1, 0, 4, false),
 ];
 
+// The row at a place of the register.
+fn row_at(i: usize) -> Row
+    requires { ⌜ i < length register ⌝ }
+    ensures { λ r. ⌜ r ≡ getD register i noRow ⌝ }
+{
+    REGISTER[i]
+}
+
 // The row of a number.
 fn row_of(number: u16) -> Listing
     ensures { λ r. ⌜ r ≡ rowIn number register ⌝ }
 {
     let mut i = 0;
     while i < REGISTER.len() {
-        let row = REGISTER[i];
+        let row = row_at(i);
         if row.0 == number {
             return Listing::Listed(row);
         }
@@ -68,7 +78,7 @@ impl Row {
 }
 
 // Whether a record breaks the register, where `again` says that an earlier record has its number.
-pub fn breaks(option: OptionRecord, again: bool) -> bool
+pub(crate) fn breaks(option: OptionRecord, again: bool) -> bool
     ensures { λ r. ⌜ r ≡ breaks again option ⌝ }
 {
     match row_of(option.number) {

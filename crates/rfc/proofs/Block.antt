@@ -1,14 +1,11 @@
 -- Laws of block values: a block and its number lead to each other, and a valid block's bytes read as its number.
 use Prim.Native.Nat.{ℕ, zero, suc, _+_, _*_, _/_, _%_, _^_, _<_, _≤_}
-use mathlib.Core.Path.{_≡_, refl, sym, ap, _∙_}
+use mathlib.Core.Path.{_≡_, refl, ap, _∙_}
 use mathlib.Core.Bool.{Bool, true, false}
 use native.Mathlib.Omega.{arith}
 use lib.Dec.{eqb, lit≤}
-use borrow.Author.Tests.{eq-eqb, ne-eqb}
-use Rattle.rfc.specs.Choice.{pick}
 use Rattle.rfc.specs.Uint.{number}
 use Rattle.rfc.specs.Block.{Block, Valid, bit, blockNumber, blockOf, blockBytes}
-use Rattle.rfc.proofs.Choice.{on-eq}
 use Rattle.rfc.proofs.Uint.{written-read}
 
 -- M is one bit.

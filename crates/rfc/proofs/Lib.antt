@@ -1,7 +1,10 @@
-pub mod Choice
-pub mod Part
-pub mod Table
+mod Sample
+mod WellFormedExamples
+mod LayoutExamples
+mod UintExamples
+mod BlockExamples
+mod TextExamples
+mod OptionExamples
 pub mod Message
 pub mod Uint
 pub mod Block
-pub mod Examples

@@ -1,13 +1,12 @@
 -- Laws of nibbles and extensions: the three classes of a delta or a length, and their lengths.
-use Prim.Native.Nat.{ℕ, _+_, _-_, _*_, _/_, _%_, _<_, _≤_}
-use mathlib.Core.Path.{_≡_, refl}
-use mathlib.Core.List.{List, [], _∷_}
+use Prim.Native.Nat.{ℕ, _-_, _/_, _%_, _<_, _≤_}
+use mathlib.Core.Path.{_≡_}
+use mathlib.Core.List.{[], _∷_}
 use native.Mathlib.Omega.{arith}
-use lib.ListN.{length}
 use borrow.Author.Tests.{lt-ltb, le-ltb}
 use Rattle.rfc.specs.Message.{nibbleOf, extensionOf}
-use Rattle.rfc.specs.Part.{Bytes}
-use Rattle.rfc.proofs.Choice.{on-lt}
+use Rattle.ground.specs.Part.{Bytes}
+use Rattle.ground.proofs.Choice.{on-lt}
 
 module _ (n : ℕ) where
   pub nibble-none : n < 13 → nibbleOf n ≡ n

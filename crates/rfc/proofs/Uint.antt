@@ -1,19 +1,17 @@
 -- Laws of uints: written then read is the number; read then written is the value without its leading zeros.
 use Prim.Native.Nat.{ℕ, zero, suc, _+_, _-_, _*_, _/_, _%_, _^_, _<_, _≤_}
 use mathlib.Core.Path.{_≡_, refl, sym, ap, _∙_}
-use mathlib.Core.Bool.{true, false}
+use mathlib.Core.Bool.{false}
 use mathlib.Core.List.{List, [], _∷_, _++_, append-assoc, append-nil}
-use native.Mathlib.Nat.{pow-suc, pow-succ', mul-assoc, mul-le-mul-right, lt-of-lt-of-le, div-lt-iff-lt-mul, le-of-suc-le-suc, add-zero, zero-add, add-suc, suc-add, not-suc-le-zero}
+use native.Mathlib.Nat.{pow-suc, pow-succ', mul-assoc, mul-le-mul-right, lt-of-lt-of-le, div-lt-iff-lt-mul, add-zero, zero-add, add-suc, suc-add, not-suc-le-zero}
 use native.Mathlib.Omega.{arith}
 use lib.Dec.{eqb, lit<}
 use lib.ListN.{length, length-append}
-use lib.Arith.{digits-div, digits-mod}
-use borrow.Author.Tests.{eq-eqb, ne-eqb, eqb-true, eqb-false}
-use Rattle.rfc.specs.Choice.{pick}
-use Rattle.rfc.specs.Part.{Bytes}
+use borrow.Author.Tests.{ne-eqb}
+use Rattle.ground.specs.Part.{Bytes}
 use Rattle.rfc.specs.Uint.{numberFrom, number, uint, withoutZeros}
-use Rattle.rfc.proofs.Choice.{on-eq}
-use Rattle.rfc.proofs.Part.{bytes-append}
+use Rattle.ground.proofs.Choice.{on-eq}
+use Rattle.ground.proofs.Part.{bytes-append}
 
 -- A number read in two goes.
 pub number-append : (n : ℕ) (s t : List ℕ) → numberFrom n (s ++ t) ≡ numberFrom (numberFrom n s) t

@@ -4,8 +4,8 @@ use mathlib.Core.Path.{_≡_}
 use mathlib.Core.List.{List, [], _∷_, _++_}
 use lib.ListN.{length}
 use lib.Dec.{ltb}
-use Rattle.rfc.specs.Choice.{pick}
-use Rattle.rfc.specs.Part.{Bytes}
+use Rattle.ground.specs.Choice.{pick}
+use Rattle.ground.specs.Part.{Bytes}
 
 -- An option: its number and the bytes of its value (section 3.1).
 pub record Opt : Type 0 where

@@ -1,13 +1,9 @@
 -- UTF-8 text: RFC 3629, section 4.
 use Prim.Native.Nat.{ℕ, _-_}
-use mathlib.Core.Bool.{Bool, true, false}
+use mathlib.Core.Bool.{Bool, false}
 use mathlib.Core.List.{List, [], _∷_}
-use lib.Dec.{leb, eqb}
-use Rattle.rfc.specs.Choice.{pick, both}
-
--- The number is one of `low` to `high`.
-abbrev pub within : ℕ → ℕ → ℕ → Bool
-within low high b = both (leb low b) (leb b high)
+use lib.Dec.{eqb}
+use Rattle.ground.specs.Choice.{pick, both, within}
 
 -- What a first byte calls for: this many further bytes, the next of them from `low` to `high`; or it begins no character.
 pub data Lead : Type 0 where

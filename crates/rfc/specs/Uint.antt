@@ -1,9 +1,8 @@
 -- Option values of format uint: RFC 7252, section 3.2.
 use Prim.Native.Nat.{ℕ, zero, suc, _+_, _*_, _/_, _%_}
-use mathlib.Core.Bool.{Bool}
 use mathlib.Core.List.{List, [], _∷_, _++_}
 use lib.Dec.{eqb}
-use Rattle.rfc.specs.Choice.{pick}
+use Rattle.ground.specs.Choice.{pick}
 
 -- The number that bytes in network order stand for after a number already read; leading zero bytes add nothing.
 abbrev pub numberFrom : ℕ → List ℕ → ℕ

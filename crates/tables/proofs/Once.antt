@@ -3,8 +3,8 @@ use Prim.Native.Nat.{ℕ, _<_}
 use mathlib.Core.Path.{_≡_, refl}
 use lib.Dec.{T}
 use lib.ListN.{length, getD}
-use Rattle.rfc.specs.Table.{once}
-use Rattle.rfc.proofs.Table.{one-place}
+use Rattle.ground.specs.Table.{once}
+use Rattle.ground.proofs.Table.{one-place}
 use Rattle.tables.specs.Numbers.{optionNumbers, contentFormats}
 use Rattle.tables.specs.Place.{placeOf}
 use Rattle.tables.specs.declared.Place.the-variants.{At}

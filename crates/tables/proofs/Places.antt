@@ -9,10 +9,10 @@ use lib.Dec.{T, eqb}
 use lib.ListN.{length, drop, getD, drop-of-length-le}
 use lib.Seq.{drop-cons}
 use borrow.Author.Tests.{eq-eqb, ne-eqb}
-use Rattle.rfc.specs.Choice.{pick, either}
-use Rattle.rfc.specs.Table.{listed, once}
-use Rattle.rfc.proofs.Choice.{on-eq}
-use Rattle.rfc.proofs.Table.{entry-listed, one-place}
+use Rattle.ground.specs.Choice.{pick, either}
+use Rattle.ground.specs.Table.{listed, once}
+use Rattle.ground.proofs.Choice.{on-eq}
+use Rattle.ground.proofs.Table.{entry-listed, one-place}
 use Rattle.tables.specs.Place.{placeFrom, placeOf}
 use Rattle.tables.specs.declared.Place.{Place}
 use Rattle.tables.specs.declared.Place.the-variants.{At, Unlisted}

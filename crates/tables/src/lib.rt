@@ -1,6 +1,6 @@
 // The option numbers and content formats that have names, and where a number stands among them.
 ghost use mathlib.Core.Path.{_≡_};
-ghost use Rattle.rfc.specs.Table.{listed};
+ghost use Rattle.ground.specs.Table.{listed};
 ghost use Rattle.tables.specs.Numbers.{optionNumbers, contentFormats};
 ghost use Rattle.tables.specs.Place.{placeOf};
 

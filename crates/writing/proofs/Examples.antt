@@ -6,17 +6,18 @@ use mathlib.Core.List.{List, [], _∷_, _++_}
 use lib.ListN.{length, replicate}
 use Rattle.rfc.specs.Message.{layout, headerLayout, optionLayout, nibbleOf, extensionOf}
 use Rattle.refusal.specs.Answer.{given, refused}
-use Rattle.header.specs.declared.MessageClass.{MessageClass}
-use Rattle.header.specs.declared.MessageClass.the-variants.{Empty, Request, Reserved}
+use Rattle.class.specs.declared.MessageClass.{MessageClass}
+use Rattle.class.specs.declared.MessageClass.the-variants.{Empty, Request, Reserved}
 use Rattle.header.specs.declared.MessageType.the-variants.{Confirmable}
-use Rattle.header.specs.declared.RequestType.the-variants.{Get}
-use Rattle.packet.specs.Packet.{none, bytesOf}
-use Rattle.packet.specs.Judge.{badPacket, optionSize, extensionSize}
+use Rattle.class.specs.declared.RequestType.the-variants.{Get}
+use Rattle.packet.specs.Packet.{none, bytesIn}
+use Rattle.judging.specs.Judge.{badPacket, optionSize, extensionSize}
 use Rattle.packet.specs.declared.Packet.{Packet}
 use Rattle.packet.specs.declared.Range.{Range}
 use Rattle.packet.specs.declared.OptionRecord.{OptionRecord}
-use Rattle.writing.specs.Writing.{writing, strictly, limited, markerSize}
-use Rattle.writing.specs.declared.Limit.the-variants.{Default, Given, Unlimited}
+use Rattle.measuring.specs.Measuring.{strictly, limited, markerSize}
+use Rattle.measuring.specs.declared.Limit.the-variants.{Default, Given, Unlimited}
+use Rattle.writing.specs.Writing.{writing}
 
 range : ℕ → ℕ → Range
 range start len = record { start = start; len = len }
@@ -44,20 +45,20 @@ zeros n = replicate n 0
 
 -- Plain drops the payload of class `Empty` and counts it, without a marker; class `Reserved(0)` keeps it with its marker.
 limits : (writing false Default 4 (zeros 1280) (carrying Empty 1276) ≡ given 4) × (writing false Default 4 (zeros 1280) (carrying Empty 1277) ≡ refused 5) × (writing false Default 1280 (zeros 1280) (carrying (Reserved 0) 1275) ≡ given 1280) × (writing false Default 1280 (zeros 1280) (carrying (Reserved 0) 1276) ≡ refused 5) × (writing false Default 1279 (zeros 1280) (carrying (Reserved 0) 1275) ≡ refused 12) × (writing false Unlimited 4 (zeros 1280) (carrying Empty 1277) ≡ given 4) × (writing false (Given 3) 4 [] (carrying Empty 0) ≡ refused 5)
-unfolding writing strictly limited markerSize badPacket bytesOf layout headerLayout range packet carrying zeros
+unfolding writing strictly limited markerSize badPacket bytesIn layout headerLayout range packet carrying zeros
 limits = (refl, refl, refl, refl, refl, refl, refl)
 
 -- Strict judges by the code byte, and counts records: an option of no bytes carries, a payload of no bytes does not.
 empties : (writing true Default 9 (zeros 9) (carrying (Reserved 0) 1) ≡ refused 8) × (writing true Default 9 (zeros 9) (carrying Empty 1) ≡ refused 8) × (writing true Default 9 (zeros 9) (carrying Empty 0) ≡ given 4) × (writing true Default 9 (zeros 9) (packet 1 Empty (range 0 0) (option 0 0 ∷ []) (range 0 0)) ≡ refused 8)
-unfolding writing strictly limited markerSize badPacket optionSize extensionSize bytesOf layout headerLayout optionLayout nibbleOf extensionOf range option packet carrying zeros
+unfolding writing strictly limited markerSize badPacket optionSize extensionSize bytesIn layout headerLayout optionLayout nibbleOf extensionOf range option packet carrying zeros
 empties = (refl, refl, refl, refl)
 
 -- Bad records come before the version, a range of no bytes can be outside, and equal numbers stand in order.
 records : (writing true Default 9 (zeros 8) (packet 4 (Request Get) (range 0 0) [] (range 0 0)) ≡ refused 11) × (writing true Default 9 (zeros 8) (packet 0 (Request Get) (range 0 0) [] (range 0 0)) ≡ refused 7) × (writing false Default 9 (zeros 8) (packet 0 (Request Get) (range 9 0) [] (range 0 0)) ≡ refused 11) × (writing false Default 9 (zeros 8) (packet 1 (Request Get) (range 0 0) (option 12 0 ∷ option 11 0 ∷ []) (range 0 0)) ≡ refused 11) × (writing true Default 9 (zeros 8) (packet 1 (Request Get) (range 0 0) (option 11 0 ∷ option 11 1 ∷ []) (range 0 0)) ≡ given 7)
-unfolding writing strictly limited markerSize badPacket optionSize extensionSize bytesOf layout headerLayout optionLayout nibbleOf extensionOf range option packet zeros
+unfolding writing strictly limited markerSize badPacket optionSize extensionSize bytesIn layout headerLayout optionLayout nibbleOf extensionOf range option packet zeros
 records = (refl, refl, refl, refl, refl)
 
 -- A token of 9 to 15 bytes is plain's alone, and one of 16 is nobody's.
 tokens : (writing true Default 99 (zeros 16) (packet 1 (Request Get) (range 0 9) [] (range 0 0)) ≡ refused 2) × (writing false Default 99 (zeros 16) (packet 1 (Request Get) (range 0 15) [] (range 0 0)) ≡ given 19) × (writing false Default 99 (zeros 16) (packet 1 (Request Get) (range 0 16) [] (range 0 0)) ≡ refused 11)
-unfolding writing strictly limited markerSize badPacket bytesOf layout headerLayout range packet zeros
+unfolding writing strictly limited markerSize badPacket bytesIn layout headerLayout range packet zeros
 tokens = (refl, refl, refl)

@@ -1,5 +1,5 @@
-pub mod Pieces
 pub mod Options
+pub mod Parts
 pub mod Sizes
 pub mod Answers
 pub mod Strict

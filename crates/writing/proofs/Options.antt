@@ -8,20 +8,23 @@ use lib.ListN.{length, drop, length-append, length-take}
 use lib.Dec.{ltb}
 use borrow.Author.Tests.{ltb-false}
 use Rattle.rfc.specs.Message.{optionLayout, optionsLayout}
-use Rattle.rfc.proofs.Choice.{on-le}
-use Rattle.rfc.proofs.Part.{Put, put-put}
-use Rattle.packet.specs.Packet.{bytesOf, valueOf}
+use Rattle.ground.proofs.Choice.{on-le, neither}
+use Rattle.placing.specs.Put.{Put}
+use Rattle.placing.proofs.Puts.{put-none, put-length, put-put}
+use Rattle.refusal.specs.Answer.{given, written}
+use Rattle.refusal.specs.declared.Written.{Written}
+use Rattle.laying.specs.Laying.{laidOption, LaysOption}
+use Rattle.laying.proofs.Laid.{option-laid, lays-put}
+use Rattle.packet.specs.Packet.{bytesIn, valueOf}
 use Rattle.packet.specs.Meaning.{optionOf}
-use Rattle.packet.specs.Judge.{falling, badValue, badValues}
+use Rattle.judging.specs.Judge.{falling, badValue, badValues}
 use Rattle.packet.specs.declared.OptionRecord.{OptionRecord}
-use Rattle.packet.proofs.Good.{value-length}
-use Rattle.rfc.proofs.Choice.{neither}
-use Rattle.packet.proofs.Judging.{falls-later}
-use Rattle.writing.proofs.Pieces.{put-none, put-length}
+use Rattle.judging.proofs.Good.{value-length}
+use Rattle.judging.proofs.Order.{falls-later}
 
 -- A range names at most as many bytes as it says.
-pub bytes-at-most : (s : List ℕ) (start len : ℕ) → length (bytesOf s start len) ≤ len
-unfolding bytesOf
+pub bytes-at-most : (s : List ℕ) (start len : ℕ) → length (bytesIn s start len) ≤ len
+unfolding bytesIn
 bytes-at-most s start len = on-le (λ (bs : List ℕ). length bs ≤ len) (start + len) (length s) (λ h. omega (arith, length-take len (drop start s))) (λ h. omega arith)
 
 -- The bytes of the options that are left at an index, after one of the number `before`.
@@ -41,29 +44,34 @@ module _ (s : List ℕ) (rs : List OptionRecord) (old : List ℕ) (from : ℕ) w
   start h o v = record { fits = h; kept = refl; ordered = o; values = v; whole = λ r new p. p }
 
   module _ (out : List ℕ) (before next i : ℕ) (w : Putting s rs old from out before next i) where
-    module _ (r : OptionRecord) (e : drop i rs ≡ r ∷ drop (i + 1) rs) where
+    module _ (r : OptionRecord) (d : drop i rs ≡ r ∷ drop (i + 1) rs) where
       -- The option's bytes, and then those that are left after it.
       split : leftover s rs before i ≡ optionLayout before (optionOf s r) ++ leftover s rs (r .number) (i + 1)
-      split = ap (λ (l : List OptionRecord). optionsLayout before (map (optionOf s) l)) e
+      split = ap (λ (l : List OptionRecord). optionsLayout before (map (optionOf s) l)) d
 
-      pub rises : before ≤ r .number
-      rises = ltb-false (r .number) before (neither (ltb (r .number) before) (falling (r .number) (drop (i + 1) rs)) (ap (falling before) (sym e) ∙ w .ordered) .0)
+      rises : before ≤ r .number
+      rises = ltb-false (r .number) before (neither (ltb (r .number) before) (falling (r .number) (drop (i + 1) rs)) (ap (falling before) (sym d) ∙ w .ordered) .0)
 
       good : (badValue (length s) r ≡ false) × (badValues (length s) (drop (i + 1) rs) ≡ false)
-      good = neither (badValue (length s) r) (badValues (length s) (drop (i + 1) rs)) (ap (badValues (length s)) (sym e) ∙ w .values)
+      good = neither (badValue (length s) r) (badValues (length s) (drop (i + 1) rs)) (ap (badValues (length s)) (sym d) ∙ w .values)
 
-      pub short : length (valueOf s r) ≤ 65804
+      short : length (valueOf s r) ≤ 65804
       short = omega (arith, bytes-at-most s (r .start) (r .len), value-length (length s) r (good .0))
 
       pub room : next + length (optionLayout before (optionOf s r)) ≤ length out
       room = omega (arith, w .kept, w .fits, simp length-append at (ap length split))
 
-      pub turn : (after : ℕ) (new : List ℕ) → Put out next (optionLayout before (optionOf s r)) after new → Putting s rs old from new (r .number) after (i + 1)
-      turn after new p =
+      -- So it is laid, and then the others are left.
+      pub option-given : laidOption before (optionOf s r) (length out) next ≡ given (length (optionLayout before (optionOf s r)))
+      option-given = option-laid before (optionOf s r) (length out) next rises short room
+
+      pub turn : (piece : Written) (n : ℕ) (new : List ℕ) → LaysOption before (optionOf s r) next out piece new → written piece ≡ given n → Putting s rs old from new (r .number) (next + n) (i + 1)
+      turn piece n new l e =
+          let p = lays-put _ next _ out piece n new option-given l e in
           record {
             fits = omega (arith, p .next, w .fits, simp length-append at (ap length split));
-            kept = put-length out new _ next after p ∙ w .kept;
-            ordered = sym (falls-later before _ r _ e rises) ∙ w .ordered;
+            kept = put-length out new _ next (next + n) p ∙ w .kept;
+            ordered = sym (falls-later before _ r _ d rises) ∙ w .ordered;
             values = good .1;
             whole = λ k m q. w .whole k m (rw split (put-put _ _ _ _ _ _ _ _ p q));
           }

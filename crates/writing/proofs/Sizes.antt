@@ -7,23 +7,23 @@ use native.Mathlib.Omega.{arith}
 use lib.ListN.{length, drop, length-append, length-take, length-drop}
 use borrow.Author.Tests.{lt-ltb, le-ltb, le-leb}
 use Rattle.rfc.specs.Message.{Message, extensionOf, optionLayout, optionsLayout, payloadLayout, headerLayout, layout}
-use Rattle.rfc.proofs.Choice.{on-lt}
-use Rattle.header.specs.declared.MessageClass.{MessageClass}
-use Rattle.header.specs.declared.MessageClass.the-variants.{Empty, Request, Response, Reserved}
-use Rattle.packet.specs.Packet.{bytesOf, recordsOf}
+use Rattle.ground.proofs.Choice.{on-lt, neither}
+use Rattle.class.specs.declared.MessageClass.{MessageClass}
+use Rattle.class.specs.declared.MessageClass.the-variants.{Empty, Request, Response, Reserved}
+use Rattle.packet.specs.Packet.{bytesIn, recordsOf}
 use Rattle.packet.specs.Meaning.{optionOf, meaning}
-use Rattle.packet.specs.Judge.{badValue, badValues, extensionSize, optionSize, optionsSize}
+use Rattle.judging.specs.Judge.{badValue, badValues, extensionSize, optionSize, optionsSize}
 use Rattle.packet.specs.declared.Packet.{Packet}
 use Rattle.packet.specs.declared.Range.{Range}
 use Rattle.packet.specs.declared.OptionRecord.{OptionRecord}
-use Rattle.packet.proofs.Good.{Good, value-inside}
-use Rattle.rfc.proofs.Choice.{neither}
-use Rattle.writing.specs.Writing.{sentPayload, sent, bytesWritten, markerSize, counted, writtenSize}
-use Rattle.writing.proofs.Pieces.{option-length}
+use Rattle.judging.proofs.Good.{Good, value-inside}
+use Rattle.laying.proofs.Pieces.{option-length}
+use Rattle.measuring.specs.Measuring.{sentPayload, markerSize, counted, writtenSize}
+use Rattle.writing.specs.Writing.{sent, bytesWritten}
 
 -- A range inside the store names as many bytes as it says.
-pub bytes-exactly : (s : List ℕ) (start len : ℕ) → start + len ≤ length s → length (bytesOf s start len) ≡ len
-unfolding bytesOf
+pub bytes-exactly : (s : List ℕ) (start len : ℕ) → start + len ≤ length s → length (bytesIn s start len) ≡ len
+unfolding bytesIn
 bytes-exactly s start len h = rw (le-leb (start + len) (length s) h) (omega (arith, length-take len (drop start s), length-drop start s))
 
 -- The lengths of an extension, of an option of a good value, and of all of them, are those that are counted.
@@ -36,7 +36,7 @@ extension-length n =
 pub option-exactly : (s : List ℕ) (before : ℕ) (r : OptionRecord) → badValue (length s) r ≡ false → length (optionLayout before (optionOf s r)) ≡ optionSize before r
 unfolding optionSize
 option-exactly s before r e =
-    let n : length (bytesOf s (r .start) (r .len)) ≡ r .len = bytes-exactly s (r .start) (r .len) (value-inside (length s) r e) in
+    let n : length (bytesIn s (r .start) (r .len)) ≡ r .len = bytes-exactly s (r .start) (r .len) (value-inside (length s) r e) in
     option-length before (optionOf s r) ∙ rw (n, extension-length, extension-length)
 
 pub options-exactly : (s : List ℕ) (before : ℕ) (rs : List OptionRecord) → badValues (length s) rs ≡ false → length (optionsLayout before (map (optionOf s) rs)) ≡ optionsSize before rs
@@ -45,11 +45,7 @@ options-exactly s before (r ∷ rs) e =
     let both = neither (badValue (length s) r) (badValues (length s) rs) e in
     rw (length-append, option-exactly s before r (both .0), options-exactly s (r .number) rs (both .1))
 
--- A marker takes at most a byte, and a payload its own and its marker's.
-pub marker-small : (len : ℕ) → markerSize len ≤ 1
-unfolding markerSize
-marker-small len = on-lt (λ (k : ℕ). k ≤ 1) 0 len (λ h. omega arith) (λ h. omega arith)
-
+-- A payload takes its own bytes and its marker's.
 pub payload-length : (bytes : List ℕ) → length (payloadLayout bytes) ≡ length bytes + markerSize (length bytes)
 unfolding markerSize
 payload-length [] = refl
@@ -85,7 +81,3 @@ counted-written strict s p g = rw (written-length strict s p g) (omega arith)
 
 pub strict-counted : (s : List ℕ) (p : Packet) → Good (length s) p → length (layout (meaning s p)) ≡ counted true p
 strict-counted s p g = written-length true s p g
-
--- The header alone is four bytes, so 18 is never met.
-pub four : (strict : Bool) (p : Packet) → 4 ≤ counted strict p
-four strict p = omega arith

@@ -7,27 +7,30 @@ use native.Mathlib.Omega.{arith}
 use lib.ListN.{length, take, drop, length-take, length-map}
 use lib.Dec.{ltb, eqb}
 use borrow.Author.Tests.{le-ltb, eq-eqb, ltb-false, eqb-true, not-false}
-use Rattle.rfc.specs.Choice.{both, either}
-use Rattle.rfc.specs.Part.{Bytes}
+use Rattle.ground.specs.Choice.{both, either}
+use Rattle.ground.specs.Part.{Bytes}
 use Rattle.rfc.specs.Message.{Rising, Options, Bare, WellFormed, layout}
-use Rattle.rfc.proofs.Choice.{on, on-lt, on-le, on-eq}
-use Rattle.rfc.proofs.Part.{bytes-take, bytes-drop}
-use Rattle.refusal.specs.Answer.{Answer, given, refused, fitted, after}
-use Rattle.header.specs.Class.{byteOf}
+use Rattle.ground.proofs.Choice.{on, on-lt, on-le, on-eq, neither}
+use Rattle.ground.proofs.Part.{bytes-take, bytes-drop, put-front}
+use Rattle.refusal.specs.Answer.{Answer, given, onward, fitted, after}
+use Rattle.refusal.proofs.Answers.{not-refused, onward-given}
+use Rattle.class.specs.Class.{byteOf}
 use Rattle.header.proofs.Raw.{type-small}
-use Rattle.packet.specs.Packet.{bytesOf, recordsOf}
+use Rattle.packet.specs.Limits.{maxStore}
+use Rattle.packet.specs.Packet.{bytesIn, recordsOf}
 use Rattle.packet.specs.Meaning.{meaning, optionOf}
-use Rattle.packet.specs.Judge.{falling, badValue, badValues, badPacket}
+use Rattle.judging.specs.Judge.{falling, badValue, badValues, badPacket}
 use Rattle.packet.specs.Shape.{Numbers, Shaped}
 use Rattle.packet.specs.declared.Packet.{Packet}
 use Rattle.packet.specs.declared.OptionRecord.{OptionRecord}
-use Rattle.packet.proofs.Good.{Good, good, value-length}
-use Rattle.rfc.proofs.Choice.{neither}
-use Rattle.writing.specs.Writing.{writing, strictly, limited, counted, over, emptyCarries, writtenSize, sizeFitted, bytesWritten}
-use Rattle.writing.specs.declared.Limit.{Limit}
+use Rattle.judging.proofs.Good.{Good, good, value-length}
+use Rattle.measuring.specs.Measuring.{strictly, limited, counted, over, emptyCarries}
+use Rattle.measuring.specs.declared.Limit.{Limit}
+use Rattle.measuring.proofs.Sizes.{four, measured-good}
+use Rattle.writing.specs.Writing.{writing, bytesWritten}
 use Rattle.writing.proofs.Options.{bytes-at-most}
-use Rattle.writing.proofs.Sizes.{bytes-exactly, strict-counted, four}
-use Rattle.writing.proofs.Answers.{goes-on}
+use Rattle.writing.proofs.Sizes.{bytes-exactly, strict-counted}
+use Rattle.writing.proofs.Answers.{writing-measured}
 
 -- What strict mode asks besides: it is refused by none of 7, 2 and 8.
 pub record Passed (p : Packet) : Type 0 where
@@ -35,33 +38,31 @@ pub record Passed (p : Packet) : Type 0 where
   pub token : p .token .len ≤ 8
   pub empty : emptyCarries p ≡ false
 
-never : (k n : ℕ) → _≡_ {A = Answer ℕ} (refused k) (given n) → ⊥
-never k n e = let z : _≡_ {A = ℕ} 0 1 = cc in omega arith
-
 -- A packet that passes goes on, and one that goes on has passed.
-pub passes : (p : Packet) (a : Answer ℕ) → Passed p → strictly true p a ≡ a
+pub passes : (p : Packet) → Passed p → strictly true p ≡ given tt
 unfolding strictly
-passes p a h = rw (eq-eqb (p .header .version) 1 (h .version), le-ltb 8 (p .token .len) (h .token), h .empty)
+passes p h = rw (eq-eqb (p .header .version) 1 (h .version), le-ltb 8 (p .token .len) (h .token), h .empty)
 
-pub passed : (p : Packet) (a : Answer ℕ) (n : ℕ) → strictly true p a ≡ given n → Passed p × (a ≡ given n)
+pub passed : (p : Packet) → strictly true p ≡ given tt → Passed p
 unfolding strictly
-passed p a n =
-    on (λ (b : Answer ℕ). b ≡ given n → Passed p × (a ≡ given n)) (not (eqb (p .header .version) 1)) (λ v e. absurd (never 7 n e))
-    (λ v. on (λ (b : Answer ℕ). b ≡ given n → Passed p × (a ≡ given n)) (ltb 8 (p .token .len)) (λ t e. absurd (never 2 n e))
-    (λ t. on (λ (b : Answer ℕ). b ≡ given n → Passed p × (a ≡ given n)) (emptyCarries p) (λ k e. absurd (never 8 n e))
-    (λ k e. (record { version = eqb-true (p .header .version) 1 (not-false (eqb (p .header .version) 1) v); token = ltb-false 8 (p .token .len) t; empty = k }, e))))
+passed p =
+    let P : Answer (Unit {0}) → Type 0 = λ b. b ≡ given tt → Passed p in
+    on P (not (eqb (p .header .version) 1)) (λ v e. not-refused (sym e))
+    (λ v. on P (ltb 8 (p .token .len)) (λ t e. not-refused (sym e))
+    (λ t. on P (emptyCarries p) (λ k e. not-refused (sym e))
+    (λ k e. record { version = eqb-true (p .header .version) 1 (not-false (eqb (p .header .version) 1) v); token = ltb-false 8 (p .token .len) t; empty = k })))
 
 -- Bytes that a range names in a store of bytes are bytes; a range of none names none.
-pub bytes-named : (s : List ℕ) (start len : ℕ) → Bytes s → Bytes (bytesOf s start len)
-unfolding bytesOf
+pub bytes-named : (s : List ℕ) (start len : ℕ) → Bytes s → Bytes (bytesIn s start len)
+unfolding bytesIn
 bytes-named s start len b = on-le Bytes (start + len) (length s) (λ h. bytes-take len (drop start s) (bytes-drop start s b)) (λ h. tt)
 
 no-elements : {A : Type 0} (l : List A) → length l ≡ 0 → l ≡ []
 no-elements [] e = refl
 no-elements (x ∷ l) e = absurd (omega (arith, e))
 
-no-bytes : (s : List ℕ) (start len : ℕ) → len ≡ 0 → bytesOf s start len ≡ []
-no-bytes s start len e = no-elements (bytesOf s start len) (omega (arith, bytes-at-most s start len))
+no-bytes : (s : List ℕ) (start len : ℕ) → len ≡ 0 → bytesIn s start len ≡ []
+no-bytes s start len e = no-elements (bytesIn s start len) (omega (arith, bytes-at-most s start len))
 
 -- Numbers that never fall, rise.
 pub rising : (s : List ℕ) (before : ℕ) (rs : List OptionRecord) → falling before rs ≡ false → Rising before (map (optionOf s) rs)
@@ -136,7 +137,7 @@ module _ (s : List ℕ) (p : Packet) where
 -- What strict writing asks of a packet over a store: no cause of 10 or 11, a well-formed message, and that limit and room
 -- suffice for its bytes.
 pub record Writable (limit : Limit) (room : ℕ) (s : List ℕ) (p : Packet) : Type 0 where
-  pub store : length s ≤ 70000
+  pub store : length s ≤ maxStore
   pub records : badPacket (length s) p ≡ false
   pub wellformed : WellFormed (meaning s p)
   pub within : over limit (length (layout (meaning s p))) ≡ false
@@ -144,19 +145,19 @@ pub record Writable (limit : Limit) (room : ℕ) (s : List ℕ) (p : Packet) : T
 
 -- What an answer of each stage says, when it is a length.
 began : (limit : Limit) (room : ℕ) (s : List ℕ) (p : Packet) (n : ℕ) → writing true limit room s p ≡ given n
-    → (length s ≤ 70000) × (badPacket (length s) p ≡ false) × (strictly true p (limited limit (counted true p) (fitted room (layout (meaning s p)))) ≡ given n)
+    → (length s ≤ maxStore) × (badPacket (length s) p ≡ false) × (onward (strictly true p) (λ _. limited limit (counted true p) (fitted room (layout (meaning s p)))) ≡ given n)
 unfolding writing
 began limit room s p n =
-    let P : Answer ℕ → Type 0 = λ b. b ≡ given n → (length s ≤ 70000) × (badPacket (length s) p ≡ false) × (strictly true p (limited limit (counted true p) (fitted room (layout (meaning s p)))) ≡ given n) in
-    on-lt P 70000 (length s) (λ h e. absurd (never 10 n e)) (λ h. on P (badPacket (length s) p) (λ b e. absurd (never 11 n e)) (λ b e. (h, b, e)))
+    let P : Answer ℕ → Type 0 = λ b. b ≡ given n → (length s ≤ maxStore) × (badPacket (length s) p ≡ false) × (onward (strictly true p) (λ _. limited limit (counted true p) (fitted room (layout (meaning s p)))) ≡ given n) in
+    on-lt P maxStore (length s) (λ h e. not-refused (sym e)) (λ h. on P (badPacket (length s) p) (λ b e. not-refused (sym e)) (λ b e. (h, b, e)))
 
 ended : (limit : Limit) (room size : ℕ) (bytes : List ℕ) (n : ℕ) → limited limit size (fitted room bytes) ≡ given n → (over limit size ≡ false) × (length bytes ≤ room) × (n ≡ length bytes)
 unfolding limited
 ended limit room size bytes n =
     let P : Answer ℕ → Type 0 = λ b. b ≡ given n → (over limit size ≡ false) × (length bytes ≤ room) × (n ≡ length bytes) in
-    on P (over limit size) (λ o e. absurd (never 5 n e))
-    (λ o. on-lt P size 4 (λ h e. absurd (never 18 n e))
-    (λ h. on-lt P room (length bytes) (λ r e. absurd (never 12 n e)) (λ r e. (o, r, cc))))
+    on P (over limit size) (λ o e. not-refused (sym e))
+    (λ o. on-lt P size 4 (λ h e. not-refused (sym e))
+    (λ h. on-lt P room (length bytes) (λ r e. not-refused (sym e)) (λ r e. (o, r, cc))))
 
 module _ (limit : Limit) (room : ℕ) (s : List ℕ) (p : Packet) (shaped : Shaped p) where
   -- Strict writing accepts what is writable, and answers the length of its layout.
@@ -165,19 +166,19 @@ module _ (limit : Limit) (room : ℕ) (s : List ℕ) (p : Packet) (shaped : Shap
   strict-writes w =
       let g = good (length s) p (w .records) in
       let n = strict-counted s p g in
-      goes-on true limit room s p (w .store) (w .records)
-      ∙ (passes p (limited limit (counted true p) (sizeFitted room (writtenSize true p))) (wellformed-strict s p shaped g (w .wellformed))
-      ∙ rw (sym (ap (over limit) n) ∙ w .within, le-ltb (counted true p) 4 (four true p), sym n, le-ltb room (length (layout (meaning s p))) (w .fits)))
+      writing-measured true limit room s p
+      ∙ (measured-good true limit room (length s) p (w .store) (w .records)
+      ∙ rw (passes p (wellformed-strict s p shaped g (w .wellformed)), sym (ap (over limit) n) ∙ w .within, le-ltb (counted true p) 4 (four true p), sym n, le-ltb room (length (layout (meaning s p))) (w .fits)))
 
   -- The output then begins with the layout of what the packet means.
-  pub strict-output : Writable limit room s p → (old : List ℕ) → after (writing true limit room s p) (bytesWritten true s p) old ≡ layout (meaning s p) ++ drop (length (layout (meaning s p))) old
-  strict-output w old = rw (strict-writes w)
+  pub strict-output : Writable limit room s p → (old : List ℕ) → length (layout (meaning s p)) ≤ length old → after (writing true limit room s p) 0 (bytesWritten true s p) old ≡ layout (meaning s p) ++ drop (length (layout (meaning s p))) old
+  strict-output w old fits = rw (strict-writes w) (put-front old (layout (meaning s p)) fits)
 
   -- It accepts nothing else, and no other length is its answer.
   pub strict-written : Bytes s → (n : ℕ) → writing true limit room s p ≡ given n → Writable limit room s p × (n ≡ length (layout (meaning s p)))
   strict-written b n e =
       let first = began limit room s p n e in
       let g = good (length s) p (first .1) in
-      let second = passed p (limited limit (counted true p) (fitted room (layout (meaning s p)))) n (first .2) in
-      let third = ended limit room (counted true p) (layout (meaning s p)) n (second .1) in
-      (record { store = first .0; records = first .1; wellformed = strict-wellformed s p shaped g b (second .0); within = ap (over limit) (strict-counted s p g) ∙ third .0; fits = third .1 }, third .2)
+      let second = onward-given (strictly true p) (λ _. limited limit (counted true p) (fitted room (layout (meaning s p)))) n (first .2) in
+      let third = ended limit room (counted true p) (layout (meaning s p)) n (second .2) in
+      (record { store = first .0; records = first .1; wellformed = strict-wellformed s p shaped g b (passed p (second .1)); within = ap (over limit) (strict-counted s p g) ∙ third .0; fits = third .1 }, third .2)

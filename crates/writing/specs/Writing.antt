@@ -1,30 +1,20 @@
--- Writing a packet, plain and strict: the bytes, the counted size, the limit, and the order of refusals.
-use Prim.Native.Nat.{ℕ, _+_}
-use mathlib.Core.Bool.{Bool, true, false, not}
+-- Writing a packet, plain and strict: its bytes, the order of refusals, and the promise of every writer.
+use Prim.Native.Nat.{ℕ}
+use mathlib.Core.Path.{_≡_}
+use mathlib.Core.Bool.{Bool}
 use mathlib.Core.List.{List}
 use lib.ListN.{length}
-use lib.Dec.{ltb, eqb}
-use Rattle.rfc.specs.Choice.{pick, both, either}
+use lib.Dec.{ltb}
+use Rattle.ground.specs.Choice.{pick}
 use Rattle.rfc.specs.Message.{layout}
-use Rattle.refusal.specs.Answer.{Answer, given, refused, fitted}
-use Rattle.header.specs.Class.{byteOf}
-use Rattle.header.specs.declared.MessageClass.{MessageClass}
-use Rattle.header.specs.declared.MessageClass.the-variants.{Empty, Request, Response, Reserved}
-use Rattle.packet.specs.Packet.{nowhere, recordsOf}
+use Rattle.refusal.specs.Answer.{Answer, refused, onward, written, fitted, after}
+use Rattle.refusal.specs.declared.Written.{Written}
+use Rattle.packet.specs.Limits.{maxStore}
 use Rattle.packet.specs.Meaning.{meaning}
-use Rattle.packet.specs.Judge.{badPacket, optionsSize}
 use Rattle.packet.specs.declared.Packet.{Packet}
-use Rattle.packet.specs.declared.Range.{Range}
-use Rattle.writing.specs.declared.Limit.{Limit}
-use Rattle.writing.specs.declared.Limit.the-variants.{Default, Given, Unlimited}
-
--- The payload that is sent: plain drops that of class `Empty`, and of no other class whose byte is 0.
-abbrev pub sentPayload : Bool → MessageClass → Range → Range
-sentPayload true class payload = payload
-sentPayload false Empty payload = nowhere
-sentPayload false (Request r) payload = payload
-sentPayload false (Response r) payload = payload
-sentPayload false (Reserved b) payload = payload
+use Rattle.judging.specs.Judge.{badPacket}
+use Rattle.measuring.specs.Measuring.{sentPayload, counted, strictly, limited}
+use Rattle.measuring.specs.declared.Limit.{Limit}
 
 -- The packet that is sent: all but for a payload that is dropped.
 abbrev pub sent : Bool → Packet → Packet
@@ -41,52 +31,14 @@ sent strict p =
 abbrev pub bytesWritten : Bool → List ℕ → Packet → List ℕ
 bytesWritten strict s p = layout (meaning s (sent strict p))
 
--- The marker before a payload of this length: one byte, and none before no payload.
-unfoldable pub markerSize : ℕ → ℕ
-markerSize len = pick (ltb 0 len) 1 0
-
--- The counted size: 4 + token + options + payload, a dropped payload too, plus 1 for a marker written.
-abbrev pub counted : Bool → Packet → ℕ
-counted strict p =
-    4 + p .token .len + optionsSize 0 (recordsOf p) + p .payload .len
-    + markerSize (sentPayload strict (p .header .code) (p .payload) .len)
-
--- The size is over the limit: 1,280 by default, or the one given; without a limit none is.
-abbrev pub over : Limit → ℕ → Bool
-over Default size = ltb 1280 size
-over (Given limit) size = ltb limit size
-over Unlimited size = false
-
--- Code byte 0 with a token, an option, even one of no bytes, or a payload.
-abbrev pub emptyCarries : Packet → Bool
-emptyCarries p =
-    both (eqb (byteOf (p .header .code)) 0)
-    (either (ltb 0 (p .token .len)) (either (ltb 0 (p .count)) (ltb 0 (p .payload .len))))
-
--- What strict refuses before it goes on: a version that is not 1 gives 7, a token over 8 bytes 2, an empty message that carries 8.
-unfoldable pub strictly : Bool → Packet → Answer ℕ → Answer ℕ
-strictly strict p onward =
-    pick (both strict (not (eqb (p .header .version) 1))) (refused 7)
-    (pick (both strict (ltb 8 (p .token .len))) (refused 2)
-    (pick (both strict (emptyCarries p)) (refused 8) onward))
-
--- What the size refuses before writing goes on: over the limit gives 5; a buffer of the counted size that holds no header 18.
-unfoldable pub limited : Limit → ℕ → Answer ℕ → Answer ℕ
-limited limit size onward = pick (over limit size) (refused 5) (pick (ltb size 4) (refused 18) onward)
-
 -- Writing into an output with this much room: 10, 11, strict 7, 2 and 8, then 5 and 18 by the counted size, then 12 by the bytes.
 unfoldable pub writing : Bool → Limit → ℕ → List ℕ → Packet → Answer ℕ
 writing strict limit room s p =
-    pick (ltb 70000 (length s)) (refused 10)
+    pick (ltb maxStore (length s)) (refused 10)
     (pick (badPacket (length s) p) (refused 11)
-    (strictly strict p (limited limit (counted strict p) (fitted room (bytesWritten strict s p)))))
+    (onward (strictly strict p) (λ _. limited limit (counted strict p) (fitted room (bytesWritten strict s p)))))
 
--- The size of the bytes: as counted, but without a payload that is dropped.
-abbrev pub writtenSize : Bool → Packet → ℕ
-writtenSize strict p =
-    4 + p .token .len + optionsSize 0 (recordsOf p) + sentPayload strict (p .header .code) (p .payload) .len
-    + markerSize (sentPayload strict (p .header .code) (p .payload) .len)
-
--- Bytes of this size for an output with this much room: their length, or NoRoom (12).
-abbrev pub sizeFitted : ℕ → ℕ → Answer ℕ
-sizeFitted room size = pick (ltb room size) (refused 12) (given size)
+-- What every writer promises, each in its mode and at its limit, of its answer and of the output that is lent.
+pub record ToBytes (strict : Bool) (limit : Limit) (p : Packet) (s old : List ℕ) (r : Written) (new : List ℕ) : Type 0 where
+  pub answer : written r ≡ writing strict limit (length old) s p
+  pub output : new ≡ after (writing strict limit (length old) s p) 0 (bytesWritten strict s p) old

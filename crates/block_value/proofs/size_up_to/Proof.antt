@@ -7,7 +7,7 @@ use lib.Dec.{eqb, eqb→eq}
 use lib.ListN.{getD}
 use borrow.Author.Tests.{lt-ltb, le-ltb}
 use Rattle.rfc.specs.Block.{size}
-use Rattle.rfc.proofs.Table.{at}
+use Rattle.ground.proofs.Table.{at}
 use Rattle.refusal.specs.Answer.{given}
 use Rattle.block_value.specs.Size.{sizeUpTo}
 use borrow.Author.Needs.{needs}

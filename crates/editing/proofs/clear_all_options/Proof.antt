@@ -3,9 +3,10 @@ use mathlib.Core.List.{[]}
 use mathlib.Core.Path.{sym, _∙_}
 use borrow.Author.Needs.{needs}
 use Rattle.refusal.specs.Answer.{given}
-use Rattle.editing.specs.Edit.{clearedAll, withRecords}
-use Rattle.editing.proofs.Walk as Walk
-use Rattle.editing.proofs.Places as Places
+use Rattle.splicing.specs.Splice.{withRecords}
+use Rattle.editing.specs.Edit.{clearedAll}
+use Rattle.editing.proofs.Taken.{taken, not-taken}
+use Rattle.judging.proofs.Places.{from-misordered, from-between}
 use Rattle.editing.proofs.clear_all_options.Statement.{statement}
 use Rattle.editing.proofs.clear_all_options.Tie as tie
 
@@ -26,11 +27,13 @@ done-requires c κs = search needs
 
 returns : tie.Need-returns
 unfolding clearedAll
-returns c = c .refused .ensures ∙ Walk.not-taken _ _ (Places.from-misordered (c .before .before .before .before .args .packet) 0 (sym (c .before .enum-told .given .1) ∙ c .before .before .before .span-of .ensures))
+returns c = c .refused .ensures ∙ not-taken _ _ (from-misordered (c .before .before .before .before .args .packet) 0 (sym (c .before .enum-told .given .1) ∙ c .before .before .before .span-of .ensures))
 
 returns-2 : tie.Need-returns-2
 unfolding clearedAll
-returns-2 c = c .done .ensures ∙ Walk.taken (c .before .before .before .before .before .args .packet) (given (withRecords (c .before .before .before .before .before .args .packet) [])) (Places.from-between (c .before .before .before .before .before .args .packet) 0 _ _ (sym (c .before .before .enum-told2 .given .1) ∙ c .before .before .before .before .span-of .ensures) .sound)
+returns-2 c =
+    let p = c .before .before .before .before .before .args .packet in
+    c .done .ensures ∙ taken p (given (withRecords p [])) (from-between p 0 _ _ (sym (c .before .before .enum-told2 .given .1) ∙ c .before .before .before .before .span-of .ensures) .sound)
 
 pub clear-all-options-spec : {M : Type 1} → statement M
 clear-all-options-spec =

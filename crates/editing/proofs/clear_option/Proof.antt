@@ -1,142 +1,21 @@
--- `clear_option` judges the records while it copies them: what is copied, and what stays of those that are left, is the list that
--- the definition makes.
-use Prim.Native.Nat.{_+_, _-_, _≤_}
-use mathlib.Core.Path.{_≡_, refl, _∙_, ap}
-use mathlib.Core.List.{_∷_}
-use native.Mathlib.Omega.{arith}
-use lib.ListN.{length, drop, getD, drop-of-length-le}
+-- `clear_option` is `set_option` with no ranges.
+use mathlib.Core.Path.{ap, _∙_}
+use Rattle.refusal.specs.Answer.{beside}
+use Rattle.editing.proofs.Made.{cleared-set}
 use borrow.Author.Needs.{needs}
-use Rattle.packet.specs.Packet.{none, recordsOf}
-use Rattle.packet.proofs.Records.{left}
-use Rattle.editing.specs.Edit.{removed, cleared}
-use Rattle.editing.proofs.Records.{removed-one, removed-not}
-use Rattle.editing.proofs.Walk as Walk
 use Rattle.editing.proofs.clear_option.Statement.{statement}
 use Rattle.editing.proofs.clear_option.Tie as tie
-use Rattle.packet.proofs.Held.{full}
 
-abbrev Inv-loop : tie.InvT-loop
-Inv-loop number packet count records₀ kept₀ before₀ i₀ records kept before i = Walk.Walk (recordsOf packet) (removed number (recordsOf packet)) (removed number (drop i (recordsOf packet))) records kept i before
+slice-aggregate-set-option : tie.Need-slice-aggregate-set-option
+slice-aggregate-set-option c = search needs
 
-abbrev μ-loop : tie.MeasureT-loop
-μ-loop number packet count records₀ kept₀ before₀ i₀ records kept before i = count - i
+set-option-requires : tie.Need-set-option-requires
+set-option-requires c κs = search needs
 
--- As many records are in use as the packet counts.
-used : (c : tie.Else1 Inv-loop μ-loop) → length (recordsOf (c .before .args .t1)) ≡ c .before .args .t1 .count
-used c =
-    let p = c .before .args .t1 in
-    Walk.in-use p (full p (c .before .good .0)) (c .if1 .left)
-
--- The records that are left begin with the one at hand.
-here : (c : tie.In-loop Inv-loop μ-loop) → drop (c .before .loop .i) (recordsOf (c .before .before .before .args .t1)) ≡ getD (c .before .before .before .args .t1 .options) (c .before .loop .i) none ∷ drop (c .before .loop .i + 1) (recordsOf (c .before .before .before .args .t1))
-here c =
-    let p = c .before .before .before .args .t1 in
-    left (p .options) (p .count) (c .before .loop .i) (omega (arith, used (c .before .before)))
-
-refused-requires : tie.Need-refused-requires Inv-loop μ-loop
-refused-requires c κs = search needs
-
-returns : tie.Need-returns Inv-loop μ-loop
-unfolding cleared
-returns c = c .refused .ensures ∙ Walk.not-taken _ _ (Walk.over-full (c .before .before .args .t1) (c .before .if1 .taken))
-
-loop-holds : tie.Need-loop-holds Inv-loop μ-loop
-loop-holds c = Walk.start _ _
-
-mul-record : tie.Need-mul-record Inv-loop μ-loop
-mul-record c = search needs
-
-element-copy-out-record : tie.Need-element-copy-out-record Inv-loop μ-loop
-element-copy-out-record c = search needs
-
-refused-requires-2 : tie.Need-refused-requires-2 Inv-loop μ-loop
-refused-requires-2 c κs = search needs
-
-returns-2 : tie.Need-returns-2 Inv-loop μ-loop
-unfolding cleared
-returns-2 c =
-    let l = c .before .before .before .before .before in
-    c .refused2 .ensures
-    ∙ Walk.not-taken _ _ (Walk.unsound (l .before .before .args .t1) (l .before .if1 .left) (Walk.falls _ _ _ (l .loop .inv .ordered) _ (here (c .before .before .before .before)) (c .before .if2 .taken)))
-
-add-i : tie.Need-add-i Inv-loop μ-loop
-add-i c = search needs
-
-loop-less : tie.Need-loop-less Inv-loop μ-loop
-loop-less c = search needs
-
-loop-again : tie.Need-loop-again Inv-loop μ-loop
-loop-again c =
-    let l = c .before .before .before .before .before .before in
-    let e = here (c .before .before .before .before .before) in
-    let a = l .before .before .args in
-    let x = getD (a .t1 .options) (l .loop .i) none in
-    let rest = drop (l .loop .i + 1) (recordsOf (a .t1)) in
-    let fits = used (l .before) in
-    Walk.skips _ _ _ _ _ _ _ (l .loop .inv) x e (c .before .before .if2 .left) (omega arith) (removed (a .number) rest)
-    (λ s. ap (removed (a .number)) e ∙ removed-one (a .number) x rest (c .if3 .taken))
-
-mul-records : tie.Need-mul-records Inv-loop μ-loop
-mul-records c = search needs
-
-array-set-from-records : tie.Need-array-set-from-records Inv-loop μ-loop
-array-set-from-records c = search needs
-
-add-kept : tie.Need-add-kept Inv-loop μ-loop
-add-kept c = search needs
-
-add-i-2 : tie.Need-add-i-2 Inv-loop μ-loop
-add-i-2 c = search needs
-
-loop-less-2 : tie.Need-loop-less-2 Inv-loop μ-loop
-loop-less-2 c = search needs
-
-loop-again-2 : tie.Need-loop-again-2 Inv-loop μ-loop
-loop-again-2 c =
-    let l = c .before .before .before .before .before .before in
-    let e = here (c .before .before .before .before .before) in
-    let a = l .before .before .args in
-    let x = getD (a .t1 .options) (l .loop .i) none in
-    let rest = drop (l .loop .i + 1) (recordsOf (a .t1)) in
-    let fits = used (l .before) in
-    Walk.copies _ _ _ _ _ _ _ (l .loop .inv) x e (c .before .before .if2 .left) (omega arith) (omega arith) x (removed (a .number) rest)
-    (λ s. ap (removed (a .number)) e ∙ removed-not (a .number) x rest (c .if3 .left))
-
-done-requires : tie.Need-done-requires Inv-loop μ-loop
-done-requires c κs = search needs
-
-returns-3 : tie.Need-returns-3 Inv-loop μ-loop
-unfolding cleared
-returns-3 c =
-    let l = c .before .before in
-    let a = l .before .before .args in
-    let fits = used (l .before) in
-    let past : length (recordsOf (a .t1)) ≤ l .loop .i = omega arith in
-    c .done .ensures
-    ∙ Walk.made (a .t1) _ _ (removed (a .number) (recordsOf (a .t1))) (l .loop .records) (l .loop .kept) (Walk.well (l .before .before .args .t1) (l .before .if1 .left) (Walk.sound _ _ _ (l .loop .inv .ordered) past))
-    (Walk.finished _ _ _ _ _ _ _ (l .loop .inv) past (ap (removed (a .number)) (drop-of-length-le (recordsOf (a .t1)) past)) _ refl)
+returns : tie.Need-returns
+returns c =
+    let a = c .before .before .args in
+    c .set-option .ensures ∙ ap (beside (a .packet)) (cleared-set (a .packet) (a .number))
 
 pub clear-option-spec : {M : Type 1} → statement M
-clear-option-spec =
-    tie.close
-    (tie.spec
-    Inv-loop
-    μ-loop
-    refused-requires
-    returns
-    loop-holds
-    mul-record
-    element-copy-out-record
-    refused-requires-2
-    returns-2
-    add-i
-    loop-less
-    loop-again
-    mul-records
-    array-set-from-records
-    add-kept
-    add-i-2
-    loop-less-2
-    loop-again-2
-    done-requires
-    returns-3)
+clear-option-spec = tie.close (tie.spec slice-aggregate-set-option set-option-requires returns)

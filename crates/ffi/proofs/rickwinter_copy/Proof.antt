@@ -1,13 +1,8 @@
--- `rickwinter_copy`: what was read, handed on.
-use mathlib.Core.Path.{_≡_, ap, _∙_}
-use lib.ListN.{length}
+-- `rickwinter_copy`: what was read, written again.
+use mathlib.Core.Path.{_∙_}
+use Rattle.reading.specs.Reading.{reading}
+use Rattle.ffi.proofs.Answered.{copied}
 use borrow.Author.Needs.{needs}
-use Rattle.refusal.specs.Answer.{Answer}
-use Rattle.packet.specs.declared.Packet.{Packet}
-use Rattle.reading.specs.Reading.{reading, decoded}
-use Rattle.ffi.specs.Flat.{packetRead}
-use Rattle.ffi.specs.Copy.{lengthIn, copying, copied}
-use Rattle.ffi.proofs.Flat.{packet-read}
 use Rattle.ffi.proofs.rickwinter_copy.Statement.{statement}
 use Rattle.ffi.proofs.rickwinter_copy.Tie as tie
 
@@ -17,17 +12,25 @@ from-bytes-in-requires c κs = search needs
 copy-over-requires : tie.Need-copy-over-requires
 copy-over-requires c κs = search needs
 
+length-or-refusal-requires : tie.Need-length-or-refusal-requires
+length-or-refusal-requires c κs = search needs
+
 same-length : tie.Need-same-length
 same-length c = search needs
 
 returns : tie.Need-returns
 returns c =
-    let f = c .before .before .before .before in
-    let a = f .before .before .before .args in
-    let h = c .before .before .copy-over .ensures in
-    let e : packetRead (decoded (f .from-bytes-in .result)) ≡ reading (a .strict) (a .datagram .now) = ap packetRead (f .from-bytes-in .ensures) ∙ packet-read (reading (a .strict) (a .datagram .now)) in
-    (h .0 ∙ ap (λ (q : Answer Packet). lengthIn (copying (a .strict) (length (a .out .now)) (a .datagram .now) q)) e, h .1 ∙ ap (λ (q : Answer Packet). copied (a .strict) (a .datagram .now) q (a .out .now)) e)
+    let t = c .before .before .before in
+    let a = t .before .before .before .before .before .args in
+    let h = copied (reading (a .strict) (a .datagram .now)) _ (t .before .before .from-bytes-in .ensures) (a .out .now) _ _ (a .strict) (a .datagram .now) (t .copy-over .ensures) in
+    (c .length-or-refusal .ensures ∙ h .0, h .1)
 
 pub rickwinter-copy-spec : {M : Type 1} → statement M
 rickwinter-copy-spec =
-    tie.close (tie.spec from-bytes-in-requires copy-over-requires same-length returns)
+    tie.close
+    (tie.spec
+    from-bytes-in-requires
+    copy-over-requires
+    length-or-refusal-requires
+    same-length
+    returns)

@@ -6,11 +6,13 @@ use mathlib.Core.List.{List}
 use native.Mathlib.Omega.{arith}
 use lib.ListN.{length}
 use borrow.Author.Tests.{lt-ltb, le-ltb}
-use Rattle.rfc.proofs.Part.{bytes-of}
-use Rattle.reading.specs.Reading.{decoded, readOf, reading}
+use Rattle.ground.proofs.Part.{bytes-of}
+use Rattle.refusal.specs.Answer.{beside}
+use Rattle.packet.specs.Packet.{newPacket}
+use Rattle.reading.specs.Reading.{decoded, reading}
 use Rattle.reading.specs.declared.Decoded.{Decoded}
-use Rattle.printing.specs.Text.{Puts}
-use Rattle.printing.specs.Lines.{refusalLine}
+use Rattle.placing.specs.Put.{Puts}
+use Rattle.lines.specs.Lines.{refusalLine}
 use Rattle.listing.specs.Listing.{newline, answer, listing}
 use Rattle.listing.proofs.Whole.{promised}
 use borrow.Author.Needs.{needs}
@@ -22,7 +24,7 @@ too-long : {l m : List ℕ} {r : ℕ} (s : List ℕ) → 65535 < length s → Pu
 unfolding listing
 too-long s h p = rw (lt-ltb _ _ h) p
 
-read : {l m : List ℕ} {r : ℕ} (s : List ℕ) → length s ≤ 65535 → (d : Decoded) → decoded d ≡ readOf (reading true s) → Puts l 0 (answer s (decoded d)) r m → Puts l 0 (listing s) r m
+read : {l m : List ℕ} {r : ℕ} (s : List ℕ) → length s ≤ 65535 → (d : Decoded) → decoded d ≡ beside newPacket (reading true s) → Puts l 0 (answer s (decoded d)) r m → Puts l 0 (listing s) r m
 unfolding listing
 read s h d e p = rw (le-ltb _ _ h, ← e) p
 

@@ -1,7 +1,8 @@
 -- `option_from_text` meets its contract: it goes by `is_text`, and then the bytes fit or they do not.
 use mathlib.Core.Path.{refl, sym, _∙_}
 use borrow.Author.Tests.{not-true, not-false}
-use Rattle.refusal.proofs.Fitted.{put-fits, no-room}
+use Rattle.refusal.proofs.Fitted.{no-room}
+use Rattle.placing.proofs.Puts.{puts-fits}
 use borrow.Author.Needs.{needs}
 use Rattle.option_value.proofs.option_from_text.Statement.{statement}
 use Rattle.option_value.proofs.option_from_text.Tie as tie
@@ -25,9 +26,8 @@ same-length c = search needs
 
 returns-3 : tie.Need-returns-3
 returns-3 c =
-    let start = c .before .before .before .before .before .before .before .before .before in
     rw (sym (c .before .before .before .before .before .before .is-text .ensures) ∙ not-false _ (c .before .before .before .before .before .if1 .left))
-    (put-fits (start .args .out .now) (start .args .value .now) _ _ refl (c .before .before .before .before .if2 .left) (c .before .before .put-bytes .ensures))
+    (puts-fits (c .before .before .put-bytes .ensures) (c .before .before .before .before .if2 .left))
 
 pub option-from-text-spec : {M : Type 1} → statement M
 option-from-text-spec =

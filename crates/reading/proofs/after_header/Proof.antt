@@ -6,21 +6,27 @@ use Rattle.reading.specs.Reading.{afterHeader}
 use Rattle.reading.proofs.after_header.Statement.{statement}
 use Rattle.reading.proofs.after_header.Tie as tie
 
+token-length-requires : tie.Need-token-length-requires
+token-length-requires c κs = search needs
+
 cast-token-length : tie.Need-cast-token-length
 cast-token-length c = search needs
+
+version-requires : tie.Need-version-requires
+version-requires c κs = search needs
 
 wrong-version-requires : tie.Need-wrong-version-requires
 wrong-version-requires c κs = search needs
 
 returns : tie.Need-returns
 unfolding afterHeader
-returns c = record { is = rw (sym (c .before .wrong-version .ensures) ∙ c .if1 .taken); roomy = tt }
+returns c = record { is = rw (sym (c .before .before .before .token-length .ensures), sym (c .before .before .version .ensures), sym (c .before .wrong-version .ensures) ∙ c .if1 .taken); roomy = tt }
 
 returns-2 : tie.Need-returns-2
 unfolding afterHeader
 returns-2 c =
     record {
-      is = rw (sym (c .before .before .wrong-version .ensures) ∙ c .before .if1 .left, lt-ltb _ _ (c .if2 .taken));
+      is = rw (sym (c .before .before .before .before .token-length .ensures), sym (c .before .before .before .version .ensures), sym (c .before .before .wrong-version .ensures) ∙ c .before .if1 .left, lt-ltb _ _ (c .if2 .taken));
       roomy = tt;
     }
 
@@ -32,7 +38,7 @@ unfolding afterHeader
 returns-3 c =
     record {
       is =
-          rw (sym (c .before .before .before .wrong-version .ensures) ∙ c .before .before .if1 .left, le-ltb _ _ (c .before .if2 .left), lt-ltb _ _ (c .if3 .taken));
+          rw (sym (c .before .before .before .before .before .token-length .ensures), sym (c .before .before .before .before .version .ensures), sym (c .before .before .before .wrong-version .ensures) ∙ c .before .before .if1 .left, le-ltb _ _ (c .before .if2 .left), lt-ltb _ _ (c .if3 .taken));
       roomy = tt;
     }
 
@@ -44,7 +50,7 @@ unfolding afterHeader
 returns-4 c =
     record {
       is =
-          rw (sym (c .before .before .before .before .before .wrong-version .ensures) ∙ c .before .before .before .before .if1 .left, le-ltb _ _ (c .before .before .before .if2 .left), le-ltb _ _ (c .before .before .if3 .left), sym (c .before .empty-carries .ensures) ∙ c .if4 .taken);
+          rw (sym (c .before .before .before .before .before .before .before .token-length .ensures), sym (c .before .before .before .before .before .before .version .ensures), sym (c .before .before .before .before .before .wrong-version .ensures) ∙ c .before .before .before .before .if1 .left, le-ltb _ _ (c .before .before .before .if2 .left), le-ltb _ _ (c .before .before .if3 .left), sym (c .before .empty-carries .ensures) ∙ c .if4 .taken);
       roomy = tt;
     }
 
@@ -53,7 +59,7 @@ unfolding afterHeader
 returns-5 c =
     record {
       is =
-          rw (sym (c .before .before .before .before .before .wrong-version .ensures) ∙ c .before .before .before .before .if1 .left, le-ltb _ _ (c .before .before .before .if2 .left), le-ltb _ _ (c .before .before .if3 .left), sym (c .before .empty-carries .ensures) ∙ c .if4 .left);
+          rw (sym (c .before .before .before .before .before .before .before .token-length .ensures), sym (c .before .before .before .before .before .before .version .ensures), sym (c .before .before .before .before .before .wrong-version .ensures) ∙ c .before .before .before .before .if1 .left, le-ltb _ _ (c .before .before .before .if2 .left), le-ltb _ _ (c .before .before .if3 .left), sym (c .before .empty-carries .ensures) ∙ c .if4 .left);
       roomy = search needs;
     }
 
@@ -61,7 +67,9 @@ pub after-header-spec : {M : Type 1} → statement M
 after-header-spec =
     tie.close
     (tie.spec
+    token-length-requires
     cast-token-length
+    version-requires
     wrong-version-requires
     returns
     returns-2

@@ -1,3 +1,4 @@
+-- `empty_carries`: one test after the other.
 use borrow.Author.Tests.{lt-ltb, le-ltb, eq-eqb, ne-eqb, not-true, not-false}
 use Rattle.reading.proofs.empty_carries.Statement.{statement}
 use Rattle.reading.proofs.empty_carries.Tie as tie

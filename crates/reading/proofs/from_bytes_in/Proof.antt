@@ -3,15 +3,20 @@ use Prim.Native.Nat.{ℕ, _+_, _-_}
 use mathlib.Core.Path.{_≡_, sym, ap, subst, _∙_}
 use native.Mathlib.Omega.{arith}
 use borrow.Author.Needs.{needs}
+use borrow.Author.Tests.{le-ltb}
 use denote.Ref.{now}
-use Rattle.rfc.proofs.Part.{bytes-of}
-use Rattle.refusal.specs.Answer.{Answer, given}
-use Rattle.header.specs.Header.{rawRead}
+use Rattle.ground.proofs.Part.{bytes-of}
+use Rattle.refusal.specs.Answer.{Answer, given, onward, beside}
+use Rattle.header.specs.Header.{rawRead, tokenOf}
 use Rattle.packet.specs.declared.Packet.{Packet}
-use Rattle.reading.specs.Answers.{Opened, foundOf}
-use Rattle.reading.specs.Option.{Place, Tail, options, onward}
-use Rattle.reading.specs.Reading.{readOf, reading, tokenOf, finished}
-use Rattle.reading.proofs.Within.{Inside, place-inside, on-given}
+use Rattle.option_reading.specs.Answers.{foundOf}
+use Rattle.reading.specs.Answers.{Opened}
+use Rattle.option_reading.specs.Option.{Place, placeAt, placed}
+use Rattle.reading.specs.Options.{Tail, options}
+use Rattle.packet.specs.Packet.{newPacket}
+use Rattle.reading.specs.Reading.{reading, finished}
+use Rattle.refusal.proofs.Answers.{on-given}
+use Rattle.option_reading.proofs.Within.{Inside, place-inside}
 use Rattle.reading.proofs.Walk as Walk
 use Rattle.reading.proofs.from_bytes_in.Statement.{statement}
 use Rattle.reading.proofs.from_bytes_in.Tie as tie
@@ -31,15 +36,21 @@ opened c =
 -- Where the options' answer is known, so is the whole one.
 answer-is : (c : tie.After-place-at Inv-loop μ-loop) (a : Answer Tail)
     → options (c .before .before .longest-value .result) (now (c .before .before .before .before .before .before .before .before .before .args .buf)) 128 0 (4 + tokenOf (c .before .before .before .before .before .raw .given .0 .0)) ≡ a
-    → readOf (onward a (finished (c .before .before .before .before .before .before .before .before .before .args .strict) (now (c .before .before .before .before .before .before .before .before .before .args .buf)) (c .before .before .before .before .before .raw .given .0 .0)))
-    ≡ readOf (reading (c .before .before .before .before .before .before .before .before .before .args .strict) (now (c .before .before .before .before .before .before .before .before .before .args .buf)))
+    → beside newPacket (onward a (finished (c .before .before .before .before .before .before .before .before .before .args .strict) (now (c .before .before .before .before .before .before .before .before .before .args .buf)) (c .before .before .before .before .before .raw .given .0 .0)))
+    ≡ beside newPacket (reading (c .before .before .before .before .before .before .before .before .before .args .strict) (now (c .before .before .before .before .before .before .before .before .before .args .buf)))
 answer-is c a e =
     let r = c .before .before .before .before .before in
     let g = r .before .before .before .before .args in
     let raw = r .raw .given .0 .0 in
-    ap (λ (t : Answer Tail). readOf (onward t (finished (g .strict) (now (g .buf)) raw))) (sym e)
-    ∙ (ap (λ (m : ℕ). readOf (onward (options m (now (g .buf)) 128 0 (4 + tokenOf raw)) (finished (g .strict) (now (g .buf)) raw))) (c .before .before .longest-value .ensures)
-    ∙ ap readOf (sym (opened r .is)))
+    ap (λ (t : Answer Tail). beside newPacket (onward t (finished (g .strict) (now (g .buf)) raw))) (sym e)
+    ∙ (ap (λ (m : ℕ). beside newPacket (onward (options m (now (g .buf)) 128 0 (4 + tokenOf raw)) (finished (g .strict) (now (g .buf)) raw))) (c .before .before .longest-value .ensures)
+    ∙ ap (beside newPacket) (sym (opened r .is)))
+
+-- What stands at the place, in a datagram that is not too long.
+place : (c : tie.After-place-at Inv-loop μ-loop) → foundOf (c .place-at .result)
+    ≡ placeAt (c .before .before .longest-value .result) (now (c .before .before .before .before .before .before .before .before .before .args .buf)) (c .before .loop .number) (c .before .loop .idx)
+unfolding placed
+place c = c .place-at .ensures ∙ rw (le-ltb _ _ (opened (c .before .before .before .before .before) .roomy .1))
 
 -- The place that was found is inside the datagram.
 inside : (c : tie.After-place-at Inv-loop μ-loop) (p : Place) → foundOf (c .place-at .result) ≡ given p → Inside (now (c .before .before .before .before .before .before .before .before .before .args .buf)) p
@@ -47,7 +58,7 @@ inside c p e =
     let k = c .before .before .before .before .before .before .before .before in
     let s = now (k .before .args .buf) in
     on-given (Inside s) (foundOf (c .place-at .result)) p
-    (rw (c .place-at .ensures) (place-inside (c .before .before .longest-value .result) s (c .before .loop .number) (c .before .loop .idx) (bytes-of s (λ i. omega (arith, k .shared-slice-known .given i))))) e
+    (rw (place c) (place-inside (c .before .before .longest-value .result) s (c .before .loop .number) (c .before .loop .idx) (bytes-of s (λ i. omega (arith, k .shared-slice-known .given i))))) e
 
 opening-requires : tie.Need-opening-requires Inv-loop μ-loop
 opening-requires c κs = search needs
@@ -63,10 +74,13 @@ returns c =
     let o = c .before .before .before .before in
     let a = o .before .before .args in
     let h = subst (Opened (a .strict) (now (a .buf)) (reading (a .strict) (now (a .buf)))) (ap rawRead (c .before .before .e .given .1)) (o .opening .ensures) in
-    c .refused .ensures ∙ ap readOf (sym (h .is))
+    c .refused .ensures ∙ ap (beside newPacket) (sym (h .is))
 
 enum-known-raw : tie.Need-enum-known-raw Inv-loop μ-loop
 enum-known-raw c = search needs
+
+token-length-requires : tie.Need-token-length-requires Inv-loop μ-loop
+token-length-requires c κs = search needs
 
 longest-value-requires : tie.Need-longest-value-requires Inv-loop μ-loop
 longest-value-requires c κs = search needs
@@ -78,10 +92,10 @@ add-idx : tie.Need-add-idx Inv-loop μ-loop
 add-idx c = search needs
 
 loop-holds : tie.Need-loop-holds Inv-loop μ-loop
-loop-holds c = Walk.start _ _ _ (opened (c .before .before .before) .roomy .0)
+loop-holds c = rw (c .before .token-length .ensures) (Walk.start _ _ _ (opened (c .before .before .before) .roomy .0))
 
 place-at-requires : tie.Need-place-at-requires Inv-loop μ-loop
-place-at-requires c κs = (c .loop .inv .inside, opened (c .before .before .before .before) .roomy .1)
+place-at-requires c κs = search needs
 
 enum-known-e-2 : tie.Need-enum-known-e-2 Inv-loop μ-loop
 enum-known-e-2 c = search needs
@@ -92,7 +106,7 @@ refused-requires-2 c κs = search needs
 returns-2 : tie.Need-returns-2 Inv-loop μ-loop
 returns-2 c =
     let p = c .before .before .before .before in
-    let e = sym (p .place-at .ensures) ∙ ap foundOf (c .before .before .e2 .given .1) in
+    let e = sym (place p) ∙ ap foundOf (c .before .before .e2 .given .1) in
     c .refused2 .ensures ∙ answer-is p _ (Walk.refuses _ _ _ _ _ _ _ (p .before .loop .inv) _ e)
 
 enum-known-marked : tie.Need-enum-known-marked Inv-loop μ-loop
@@ -110,9 +124,9 @@ returns-3 c =
     let p = m .before .before in
     let r = p .before .before .before .before .before in
     let a = r .before .before .before .before .args in
-    let e = sym (p .place-at .ensures) ∙ ap foundOf (m .marked .given .1) in
+    let e = sym (place p) ∙ ap foundOf (m .marked .given .1) in
     c .refused3 .ensures
-    ∙ (ap readOf (sym (Walk.finished-alone (a .strict) (now (a .buf)) (r .raw .given .0 .0) _ (sym (c .before .before .marker-alone .ensures) ∙ c .before .if1 .taken)))
+    ∙ (ap (beside newPacket) (sym (Walk.finished-alone (a .strict) (now (a .buf)) (r .raw .given .0 .0) _ (sym (c .before .before .marker-alone .ensures) ∙ c .before .if1 .taken)))
     ∙ answer-is p _ (Walk.ends _ _ _ _ _ _ _ (p .before .loop .inv) _ _ e))
 
 packet-of-requires : tie.Need-packet-of-requires Inv-loop μ-loop
@@ -127,9 +141,9 @@ returns-4 c =
     let p = m .before .before in
     let r = p .before .before .before .before .before in
     let a = r .before .before .before .before .args in
-    let e = sym (p .place-at .ensures) ∙ ap foundOf (m .marked .given .1) in
-    ap (λ (q : Packet). readOf (given q)) (c .packet-of .ensures ∙ Walk.packet-is _ _ _ _ _ _ _ (p .before .loop .inv) (r .raw .given .0 .0) (m .marked .given .0 .0) _)
-    ∙ (ap readOf (sym (Walk.finished-well (a .strict) (now (a .buf)) (r .raw .given .0 .0) _ (sym (c .before .before .marker-alone .ensures) ∙ c .before .if1 .left)))
+    let e = sym (place p) ∙ ap foundOf (m .marked .given .1) in
+    ap (λ (q : Packet). beside newPacket (given q)) (c .packet-of .ensures ∙ Walk.packet-is _ _ _ _ _ _ _ (p .before .loop .inv) (r .raw .given .0 .0) (m .marked .given .0 .0) _)
+    ∙ (ap (beside newPacket) (sym (Walk.finished-well (a .strict) (now (a .buf)) (r .raw .given .0 .0) _ (sym (c .before .before .marker-alone .ensures) ∙ c .before .if1 .left)))
     ∙ answer-is p _ (Walk.ends _ _ _ _ _ _ _ (p .before .loop .inv) _ _ e))
 
 enum-known-r : tie.Need-enum-known-r Inv-loop μ-loop
@@ -142,7 +156,7 @@ returns-5 : tie.Need-returns-5 Inv-loop μ-loop
 returns-5 c =
     let r = c .before .before .before in
     let p = r .before .before in
-    let e = sym (p .place-at .ensures) ∙ ap foundOf (r .r .given .1) in
+    let e = sym (place p) ∙ ap foundOf (r .r .given .1) in
     c .refused4 .ensures ∙ answer-is p _ (Walk.overflows _ _ _ _ _ _ _ (p .before .loop .inv) _ e (c .before .if2 .taken))
 
 mul-records : tie.Need-mul-records Inv-loop μ-loop
@@ -173,7 +187,7 @@ loop-again : tie.Need-loop-again Inv-loop μ-loop
 loop-again c =
     let r = c .before .before .before .before in
     let p = r .before .before in
-    let e = sym (p .place-at .ensures) ∙ ap foundOf (r .r .given .1) in
+    let e = sym (place p) ∙ ap foundOf (r .r .given .1) in
     Walk.turn _ _ _ _ _ _ _ (p .before .loop .inv) _ e (c .before .before .if2 .left) (inside p _ (ap foundOf (r .r .given .1)))
 
 pub from-bytes-in-spec : {M : Type 1} → statement M
@@ -187,6 +201,7 @@ from-bytes-in-spec =
     refused-requires
     returns
     enum-known-raw
+    token-length-requires
     longest-value-requires
     cast-idx
     add-idx

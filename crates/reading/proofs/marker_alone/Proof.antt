@@ -1,3 +1,4 @@
+-- `marker_alone`: by the mode.
 use borrow.Author.Tests.{not-true, not-false}
 use Rattle.reading.proofs.marker_alone.Statement.{statement}
 use Rattle.reading.proofs.marker_alone.Tie as tie

@@ -6,6 +6,9 @@ use Rattle.reading.proofs.packet_of.Tie as tie
 from-raw-requires : tie.Need-from-raw-requires
 from-raw-requires c κs = search needs
 
+token-length-requires : tie.Need-token-length-requires
+token-length-requires c κs = search needs
+
 cast-t8 : tie.Need-cast-t8
 cast-t8 c = search needs
 
@@ -19,7 +22,7 @@ cast-t12 : tie.Need-cast-t12
 cast-t12 c = search needs
 
 returns : tie.Need-returns
-returns c = rw (c .before .from-raw .ensures)
+returns c = rw (c .token-length .ensures, c .before .from-raw .ensures)
 
 pub packet-of-spec : {M : Type 1} → statement M
-packet-of-spec = tie.close (tie.spec from-raw-requires cast-t8 cast-t10 sub-t11 cast-t12 returns)
+packet-of-spec = tie.close (tie.spec from-raw-requires token-length-requires cast-t8 cast-t10 sub-t11 cast-t12 returns)

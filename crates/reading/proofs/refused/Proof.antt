@@ -1,3 +1,4 @@
+-- `refused`: the new packet beside the refusal.
 use borrow.Author.Needs.{needs}
 use Rattle.reading.proofs.refused.Statement.{statement}
 use Rattle.reading.proofs.refused.Tie as tie

@@ -1,3 +1,4 @@
+-- `wrong_version`: both tests.
 use borrow.Author.Needs.{needs}
 use Rattle.reading.proofs.wrong_version.Statement.{statement}
 use Rattle.reading.proofs.wrong_version.Tie as tie

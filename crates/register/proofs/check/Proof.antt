@@ -1,26 +1,25 @@
 -- `check`: each return by the tests on its way; a good packet has at most 128 records, whose numbers never fall.
-use mathlib.Core.Path.{_≡_, sym, _∙_}
+use mathlib.Core.Path.{_≡_}
 use mathlib.Core.Bool.{false}
 use lib.ListN.{length}
 use borrow.Author.Needs.{needs}
 use borrow.Author.Tests.{lt-ltb, le-ltb}
-use Rattle.packet.specs.Judge.{badPacket}
-use Rattle.packet.proofs.Good.{good}
+use Rattle.judging.specs.Judge.{badPacket}
+use Rattle.judging.proofs.Good.{good, is-bad, is-good}
 use Rattle.register.specs.Check.{checking}
-use Rattle.packet.proofs.Good.{is-bad, is-good}
 use Rattle.register.proofs.check.Statement.{statement}
 use Rattle.register.proofs.check.Tie as tie
 
 -- The packet that is walked over has no bad record.
 no-bad : (c : tie.After-enum-told2) → badPacket (length (c .before .before .before .before .before .args .store .now)) (c .before .before .before .before .before .args .packet) ≡ false
-no-bad c = is-good _ _ _ (sym (c .before .before .judged .ensures) ∙ c .enum-told2 .given .1) .0
+no-bad c = is-good _ _ _ (c .before .before .judge .ensures) _ (c .enum-told2 .given .1) .0
 
 returns : tie.Need-returns
 unfolding checking
 returns c = rw (lt-ltb _ _ (c .if1 .taken))
 
-judged-requires : tie.Need-judged-requires
-judged-requires c κs = search needs
+judge-requires : tie.Need-judge-requires
+judge-requires c κs = search needs
 
 enum-told : tie.Need-enum-told
 enum-told c = search needs
@@ -33,7 +32,7 @@ first-break-requires c κs = let g = good _ _ (no-bad c) in (g .count, g .ordere
 
 returns-2 : tie.Need-returns-2
 unfolding checking
-returns-2 c = rw (le-ltb _ _ (c .before .before .before .if1 .left), is-bad _ _ (sym (c .before .before .judged .ensures) ∙ c .enum-told .given .1))
+returns-2 c = rw (le-ltb _ _ (c .before .before .before .if1 .left), is-bad _ _ _ (c .before .before .judge .ensures) (c .enum-told .given .1))
 
 returns-3 : tie.Need-returns-3
 unfolding checking
@@ -44,7 +43,7 @@ check-spec =
     tie.close
     (tie.spec
     returns
-    judged-requires
+    judge-requires
     enum-told
     enum-told-2
     first-break-requires

@@ -6,7 +6,8 @@ use native.Mathlib.Omega.{arith}
 use lib.ListN.{length, drop, getD, length-take}
 use lib.Dec.{ltb, eqb}
 use borrow.Author.Needs.{needs}
-use Rattle.rfc.specs.Choice.{both}
+use Rattle.ground.specs.Choice.{both}
+use Rattle.packet.specs.Limits.{maxOptions}
 use Rattle.packet.specs.Packet.{none, recordsOf}
 use Rattle.packet.proofs.Records.{left, none-left}
 use Rattle.register.specs.Register.{breaks}
@@ -16,7 +17,7 @@ use Rattle.register.proofs.first_break.Tie as tie
 use Rattle.packet.proofs.Held.{full}
 
 abbrev Inv-loop : tie.InvT-loop
-Inv-loop packet count before₀ i₀ before i = ((i ≤ packet .count) × (packet .count ≤ 128) × (length (packet .options) ≡ 128)) × Walk (recordsOf packet) before i
+Inv-loop packet count before₀ i₀ before i = ((i ≤ packet .count) × (packet .count ≤ maxOptions) × (length (packet .options) ≡ maxOptions)) × Walk (recordsOf packet) before i
 
 abbrev μ-loop : tie.MeasureT-loop
 μ-loop packet count before₀ i₀ before i = packet .count - i
@@ -33,7 +34,7 @@ verdict c = rw (sym (c .before .is-again .ensures)) (sym (c .breaks .ensures))
 
 loop-holds : tie.Need-loop-holds Inv-loop μ-loop
 loop-holds c =
-    let n : length (c .args .t1 .options) ≡ 128 = full (c .args .t1) (c .good .0) in
+    let n : length (c .args .t1 .options) ≡ maxOptions = full (c .args .t1) (c .good .0) in
     (omega arith, start (recordsOf (c .args .t1)) (c .pre .1))
 
 mul-option : tie.Need-mul-option Inv-loop μ-loop

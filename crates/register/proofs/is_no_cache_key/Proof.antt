@@ -3,7 +3,7 @@ use mathlib.Core.Path.{sym, _∙_}
 use Prim.Native.Nat.{_%_, _/_}
 use native.Mathlib.Omega.{arith}
 use borrow.Author.Tests.{eq-eqb, ne-eqb}
-use Rattle.rfc.proofs.Choice.{by-eq}
+use Rattle.ground.proofs.Choice.{by-eq}
 use Rattle.register.proofs.is_no_cache_key.Statement.{statement}
 use Rattle.register.proofs.is_no_cache_key.Tie as tie
 

@@ -3,7 +3,7 @@ use mathlib.Core.Path.{sym, _∙_}
 use Prim.Native.Nat.{_%_, _/_}
 use native.Mathlib.Omega.{arith}
 use borrow.Author.Tests.{le-leb, lt-leb, eq-eqb, ne-eqb}
-use Rattle.rfc.proofs.Choice.{by-lt}
+use Rattle.ground.proofs.Choice.{by-lt}
 use Rattle.register.proofs.is_unsafe.Statement.{statement}
 use Rattle.register.proofs.is_unsafe.Tie as tie
 

@@ -1,84 +1,68 @@
--- `put_message`: header, token, options and payload one after the other are the layout of the message; of the options one
--- is put a turn, until none is left.
-use Prim.Native.Nat.{ℕ, _+_, _-_, _≤_}
-use mathlib.Core.Path.{_≡_, sym, ap, _∙_}
-use mathlib.Core.List.{List, _∷_}
+-- `put_message`: header and token, options and payload one after the other are the layout of the message; of the options one is
+-- put a turn, until none is left.
+use Prim.Native.Nat.{_+_, _-_, _≤_}
+use mathlib.Core.Path.{_≡_, _∙_}
+use mathlib.Core.List.{_∷_}
 use native.Mathlib.Omega.{arith}
 use lib.ListN.{length, drop, take, getD, length-take}
-use denote.Ref.{now}
-use Rattle.rfc.specs.Message.{headerLayout, payloadLayout, layout}
-use Rattle.rfc.proofs.Part.{put-put}
-use Rattle.header.specs.Header.{rawBytes, rawOf}
-use Rattle.header.proofs.Raw.{header-layout}
-use Rattle.packet.specs.Packet.{none, bytesOf, recordsOf}
+use Rattle.placing.specs.Put.{Put}
+use Rattle.placing.proofs.Puts.{put-length}
+use Rattle.packet.specs.Packet.{none, recordsOf}
 use Rattle.packet.specs.Meaning.{meaning}
-use Rattle.packet.specs.declared.Range.{Range}
-use Rattle.packet.proofs.Good.{good}
+use Rattle.judging.proofs.Good.{good}
 use Rattle.packet.proofs.Records.{left, none-left}
+use Rattle.packet.proofs.Held.{full}
+use Rattle.laying.specs.Laying.{LaysHeader, LaysPayload}
 use Rattle.writing.specs.Writing.{sent}
-use Rattle.writing.proofs.Pieces.{put-length}
-use Rattle.writing.proofs.Options.{leftover, Putting, start, rises, short, room, turn, all}
-use Rattle.writing.proofs.Sizes.{bytes-exactly, message-length}
-use borrow.Author.Needs.{needs}
+use Rattle.writing.proofs.Options.{leftover, Putting, option-given, turn, all}
+use Rattle.writing.proofs.Parts.{head-given, begin, last-given, whole}
 use Rattle.writing.proofs.put_message.Statement.{statement}
 use Rattle.writing.proofs.put_message.Tie as tie
-use Rattle.packet.proofs.Held.{full}
 
 abbrev Inv-loop : tie.InvT-loop
-Inv-loop out₀ strict store payload count options after-header next₀ before₀ i₀ out next before i = ((i ≤ count) × (count ≤ 128) × (length options ≡ 128)) × Putting store (take count options) out₀ next₀ out before next i
+Inv-loop out₀ strict store payload count options next₀ before₀ i₀ out next before i = ((i ≤ count) × (count ≤ 128) × (length options ≡ 128)) × Putting store (take count options) out₀ next₀ out before next i
 
 abbrev μ-loop : tie.MeasureT-loop
-μ-loop out₀ strict store payload count options after-header next₀ before₀ i₀ out next before i = count - i
+μ-loop out₀ strict store payload count options next₀ before₀ i₀ out next before i = count - i
 
--- There is room for the parts of the message.
-parts : (c : tie.Start Inv-loop μ-loop) → 4 + length (bytesOf (c .args .store .now) (c .args .packet .token .start) (c .args .packet .token .len)) + length (leftover (c .args .store .now) (recordsOf (c .args .packet)) 0 0) + length (payloadLayout (meaning (c .args .store .now) (sent (c .args .strict) (c .args .packet)) .payload)) ≤ length (c .args .out .now)
-parts c = omega (arith, c .pre .1, message-length (meaning (c .args .store .now) (sent (c .args .strict) (c .args .packet))))
-
--- The four bytes are the header of the message.
-header-is : (c : tie.Start Inv-loop μ-loop) → rawBytes (rawOf (c .args .packet .header) (c .args .packet .token .len)) ≡ headerLayout (meaning (c .args .store .now) (sent (c .args .strict) (c .args .packet)))
-header-is c =
-    let p = c .args .packet in
-    let g = good _ _ (c .pre .0) in
-    let m = meaning (c .args .store .now) (sent (c .args .strict) p) in
-    let n : length (m .token) ≡ p .token .len = bytes-exactly (c .args .store .now) (p .token .start) (p .token .len) (g .token) in
-    ap (λ (k : ℕ). rawBytes (rawOf (p .header) k)) (sym n) ∙ header-layout (p .header) (m .token) (m .options) (m .payload) (g .version) (omega (arith, g .token-length))
+-- Header and token were laid, and so their length was answered.
+head-at : (c : tie.After-put-header Inv-loop μ-loop) → LaysHeader (c .before .before .before .before .before .before .before .before .before .args .packet .header) (meaning (c .before .before .before .before .before .before .before .before .before .args .store .now) (sent (c .before .before .before .before .before .before .before .before .before .args .strict) (c .before .before .before .before .before .before .before .before .before .args .packet)) .token) (c .before .before .before .before .before .before .before .before .before .args .out .now) (c .put-header .result) (c .put-header .last .0)
+head-at c = rw (c .before .before .part .ensures) at (c .put-header .ensures)
 
 -- The records that are left begin with the record at the index.
-next : (c : tie.After-record Inv-loop μ-loop) → drop (c .before .before .loop .i) (recordsOf (c .before .before .before .before .before .before .before .before .before .before .before .before .before .before .before .before .before .before .before .args .packet)) ≡ getD (c .before .before .before .before .before .before .before .before .before .before .before .before .before .before .before .before .before .before .before .args .packet .options) (c .before .before .loop .i) none ∷ drop (c .before .before .loop .i + 1) (recordsOf (c .before .before .before .before .before .before .before .before .before .before .before .before .before .before .before .before .before .before .before .args .packet))
+next : (c : tie.After-record Inv-loop μ-loop) → drop (c .before .before .loop .i) (recordsOf (c .before .before .before .before .before .before .before .before .before .before .before .before .before .before .before .args .packet)) ≡ getD (c .before .before .before .before .before .before .before .before .before .before .before .before .before .before .before .args .packet .options) (c .before .before .loop .i) none ∷ drop (c .before .before .loop .i + 1) (recordsOf (c .before .before .before .before .before .before .before .before .before .before .before .before .before .before .before .args .packet))
 next c =
-    let p = c .before .before .before .before .before .before .before .before .before .before .before .before .before .before .before .before .before .before .before .args .packet in
+    let p = c .before .before .before .before .before .before .before .before .before .before .before .before .before .before .before .args .packet in
     left (p .options) (p .count) (c .before .before .loop .i) (omega (arith, length-take (p .count) (p .options)))
 
+-- One option more was put.
+turn-at : (c : tie.After-taken2 Inv-loop μ-loop) → Putting (c .before .before .before .before .before .before .before .before .before .before .before .before .before .before .before .before .before .before .before .before .before .args .store .now) (recordsOf (c .before .before .before .before .before .before .before .before .before .before .before .before .before .before .before .before .before .before .before .before .before .args .packet)) (c .before .before .before .before .before .before .before .before .before .before .before .before .put-header .last .0) (c .before .before .before .before .before .before .before .before .before .taken .result) (c .before .before .before .put-option .last .0) (getD (c .before .before .before .before .before .before .before .before .before .before .before .before .before .before .before .before .before .before .before .before .before .args .packet .options) (c .before .before .before .before .before .before .before .before .loop .i) none .number) (c .before .before .before .before .before .before .before .before .loop .next + c .taken2 .result) (c .before .before .before .before .before .before .before .before .loop .i + 1)
+turn-at c = turn _ _ _ _ _ _ _ _ (c .before .before .before .before .before .before .before .before .loop .inv .1) _ (next (c .before .before .before .before .before .before)) _ _ _ (rw (c .before .before .before .before .before .value .ensures) at (c .before .before .before .put-option .ensures)) (c .taken2 .ensures)
+
+-- All options were put.
+options-at : (c : tie.After-loop Inv-loop μ-loop) → Put (c .before .before .before .before .before .put-header .last .0) (c .before .before .taken .result) (leftover (c .before .before .before .before .before .before .before .before .before .before .before .before .before .before .args .store .now) (recordsOf (c .before .before .before .before .before .before .before .before .before .before .before .before .before .before .args .packet)) 0 0) (c .before .loop .next) (c .before .loop .out)
+options-at c =
+    let p = c .before .before .before .before .before .before .before .before .before .before .before .before .before .before .args .packet in
+    all _ _ _ _ _ _ _ _ (c .before .loop .inv .1) (none-left (recordsOf p) (c .before .loop .i) (omega (arith, length-take (p .count) (p .options))))
+
 -- The part that is put last is the payload of the message.
-payload-is : (c : tie.After-part2 Inv-loop μ-loop) → now (c .part2 .result) ≡ meaning (c .before .before .before .before .before .before .before .before .before .before .before .before .before .before .before .before .before .before .before .args .store .now) (sent (c .before .before .before .before .before .before .before .before .before .before .before .before .before .before .before .before .before .before .before .args .strict) (c .before .before .before .before .before .before .before .before .before .before .before .before .before .before .before .before .before .before .before .args .packet)) .payload
-payload-is c = c .part2 .ensures ∙ ap (λ (q : Range). bytesOf (c .before .before .before .before .before .before .before .before .before .before .before .before .before .before .before .before .before .before .before .args .store .now) (q .start) (q .len)) (c .before .before .before .before .before .before .before .before .before .before .before .before .before .before .sent-payload .ensures)
+payload-at : (c : tie.After-put-payload Inv-loop μ-loop) → LaysPayload (meaning (c .before .before .before .before .before .before .before .before .before .before .before .before .before .before .before .before .before .args .store .now) (sent (c .before .before .before .before .before .before .before .before .before .before .before .before .before .before .before .before .before .args .strict) (c .before .before .before .before .before .before .before .before .before .before .before .before .before .before .before .before .before .args .packet)) .payload) (c .before .before .before .before .loop .next) (c .before .before .before .before .loop .out) (c .put-payload .result) (c .put-payload .last .0)
+payload-at c = rw (c .before .before .part2 .ensures, c .before .before .before .before .before .before .before .before .before .before .before .before .sent-payload .ensures) at (c .put-payload .ensures)
 
 sent-payload-requires : tie.Need-sent-payload-requires Inv-loop μ-loop
-sent-payload-requires c κs = search needs
-
-cast-put-header : tie.Need-cast-put-header Inv-loop μ-loop
-cast-put-header c = omega (arith, good _ _ (c .before .before .before .before .before .before .before .before .pre .0) .token-length)
-
-put-header-requires : tie.Need-put-header-requires Inv-loop μ-loop
-put-header-requires c κs = omega (arith, parts (c .before .before .before .before .before .before .before .before))
+sent-payload-requires c κs = tt
 
 part-requires : tie.Need-part-requires Inv-loop μ-loop
-part-requires c κs = search needs
+part-requires c κs = tt
 
-put-bytes-requires : tie.Need-put-bytes-requires Inv-loop μ-loop
-put-bytes-requires c κs =
-    let h = c .before .before .before .before .put-header .ensures in
-    omega (arith, parts (c .before .before .before .before .before .before .before .before .before .before .before .before .before), h .next, put-length _ _ _ _ _ h, ap length (c .before .part .ensures))
+put-header-requires : tie.Need-put-header-requires Inv-loop μ-loop
+put-header-requires c κs = tt
+
+taken-requires : tie.Need-taken-requires Inv-loop μ-loop
+taken-requires c κs = (_, head-at (c .before .before) .answer ∙ head-given (c .before .before .before .before .before .before .before .before .before .before .before .args .strict) _ (c .before .before .before .before .before .before .before .before .before .before .before .args .packet) (c .before .before .before .before .before .before .before .before .before .before .before .args .out .now) (c .before .before .before .before .before .before .before .before .before .before .before .pre .0) (c .before .before .before .before .before .before .before .before .before .before .before .pre .1))
 
 loop-holds : tie.Need-loop-holds Inv-loop μ-loop
-loop-holds c =
-    let st = c .before .before .before .before .before .before .before .before .before .before .before .before .before .before .before .before in
-    let p = st .args .packet in
-    let g = good _ _ (st .pre .0) in
-    let n : length (p .options) ≡ 128 = full p (st .good .1 .1 .0) in
-    let h = c .before .before .before .before .before .before .before .put-header .ensures in
-    let t = c .before .before .put-bytes .ensures in
-    ((omega arith, g .count, n), start _ _ _ _ (omega (arith, parts st, h .next, put-length _ _ _ _ _ h, t .next, put-length _ _ _ _ _ t, ap length (c .before .before .before .before .part .ensures))) (g .ordered) (g .values))
+loop-holds c = let st = c .before .before .before .before .before .before .before .before .before .before .before .before in let p = st .args .packet in ((omega arith, good _ _ (st .pre .0) .count, full p (st .good .1 .1 .0)), begin (st .args .strict) _ p _ (st .pre .0) (st .pre .1) _ _ _ (head-at (c .before .before .before)) (c .taken .ensures))
 
 mul-record : tie.Need-mul-record Inv-loop μ-loop
 mul-record c = omega arith
@@ -87,13 +71,16 @@ array-copy-out-record : tie.Need-array-copy-out-record Inv-loop μ-loop
 array-copy-out-record c = omega arith
 
 value-requires : tie.Need-value-requires Inv-loop μ-loop
-value-requires c κs = search needs
+value-requires c κs = tt
 
 put-option-requires : tie.Need-put-option-requires Inv-loop μ-loop
-put-option-requires c κs =
-    let w = c .before .before .before .before .loop .inv .1 in
-    let e = next (c .before .before) in
-    (rises _ _ _ _ _ _ _ _ w _ e, rw (c .before .value .ensures) (short _ _ _ _ _ _ _ _ w _ e), rw (c .before .value .ensures) (room _ _ _ _ _ _ _ _ w _ e))
+put-option-requires c κs = tt
+
+taken-requires-2 : tie.Need-taken-requires-2 Inv-loop μ-loop
+taken-requires-2 c κs = (_, (rw (c .before .before .before .before .value .ensures) at (c .before .before .put-option .ensures)) .answer ∙ option-given _ _ _ _ _ _ _ _ (c .before .before .before .before .before .before .before .loop .inv .1) _ (next (c .before .before .before .before .before)))
+
+add-next : tie.Need-add-next Inv-loop μ-loop
+add-next c = omega (arith, turn-at c .fits)
 
 add-i : tie.Need-add-i Inv-loop μ-loop
 add-i c = omega arith
@@ -102,32 +89,25 @@ loop-less : tie.Need-loop-less Inv-loop μ-loop
 loop-less c = omega arith
 
 loop-again : tie.Need-loop-again Inv-loop μ-loop
-loop-again c = (omega arith, turn _ _ _ _ _ _ _ _ (c .before .before .before .before .before .before .before .loop .inv .1) _ (next (c .before .before .before .before .before)) _ _ (rw (c .before .before .before .before .value .ensures) at (c .before .before .put-option .ensures)))
+loop-again c = (omega arith, turn-at c)
 
 part-requires-2 : tie.Need-part-requires-2 Inv-loop μ-loop
-part-requires-2 c κs = search needs
+part-requires-2 c κs = tt
 
 put-payload-requires : tie.Need-put-payload-requires Inv-loop μ-loop
-put-payload-requires c κs =
-    let p = c .before .before .before .before .before .before .before .before .before .before .before .before .before .before .before .before .before .before .before .before .args .packet in
-    let l = c .before .before .before .loop in
-    let h = c .before .before .before .before .before .before .before .before .before .before .before .put-header .ensures in
-    let t = c .before .before .before .before .before .before .put-bytes .ensures in
-    let o = all _ _ _ _ _ _ _ _ (l .inv .1) (none-left (recordsOf p) (l .i) (omega (arith, length-take (p .count) (p .options)))) in
-    omega (arith, parts (c .before .before .before .before .before .before .before .before .before .before .before .before .before .before .before .before .before .before .before .before), h .next, put-length _ _ _ _ _ h, t .next, put-length _ _ _ _ _ t, o .next, put-length _ _ _ _ _ o, ap length (c .before .before .before .before .before .before .before .before .part .ensures), ap (λ (bs : List ℕ). length (payloadLayout bs)) (payload-is (c .before)))
+put-payload-requires c κs = tt
 
-same-length : tie.Need-same-length Inv-loop μ-loop
-same-length c = search needs
+taken-requires-3 : tie.Need-taken-requires-3 Inv-loop μ-loop
+taken-requires-3 c κs = (_, payload-at (c .before .before) .answer ∙ last-given (c .before .before .before .before .before .before .before .before .before .before .before .before .before .before .before .before .before .before .before .args .strict) _ _ _ (c .before .before .before .before .before .before .before .before .before .before .before .before .before .before .before .before .before .before .before .pre .0) (c .before .before .before .before .before .before .before .before .before .before .before .before .before .before .before .before .before .before .before .pre .1) _ _ _ (head-at (c .before .before .before .before .before .before .before .before .before .before)) (c .before .before .before .before .before .before .before .taken .ensures) _ _ (options-at (c .before .before .before .before .before)))
 
 returns : tie.Need-returns Inv-loop μ-loop
-unfolding layout
-returns c =
-    let p = c .before .before .before .before .before .before .before .before .before .before .before .before .before .before .before .before .before .before .before .before .before .before .before .args .packet in
-    let l = c .before .before .before .before .before .before .loop in
-    let o = all _ _ _ _ _ _ _ _ (l .inv .1) (none-left (recordsOf p) (l .i) (omega (arith, length-take (p .count) (p .options)))) in
-    put-put _ _ _ _ _ _ _ _ (rw (header-is (c .before .before .before .before .before .before .before .before .before .before .before .before .before .before .before .before .before .before .before .before .before .before .before)) at (c .before .before .before .before .before .before .before .before .before .before .before .before .before .before .put-header .ensures))
-    (put-put _ _ _ _ _ _ _ _ (rw (c .before .before .before .before .before .before .before .before .before .before .before .part .ensures) at (c .before .before .before .before .before .before .before .before .before .put-bytes .ensures))
-    (put-put _ _ _ _ _ _ _ _ o (rw (payload-is (c .before .before .before .before)) at (c .before .before .put-payload .ensures))))
+returns c = whole (c .before .before .before .before .before .before .before .before .before .before .before .before .before .before .before .before .before .before .before .before .args .strict) _ _ _ (c .before .before .before .before .before .before .before .before .before .before .before .before .before .before .before .before .before .before .before .before .pre .0) (c .before .before .before .before .before .before .before .before .before .before .before .before .before .before .before .before .before .before .before .before .pre .1) _ _ _ (head-at (c .before .before .before .before .before .before .before .before .before .before .before)) (c .before .before .before .before .before .before .before .before .taken .ensures) _ _ (options-at (c .before .before .before .before .before .before)) _ _ _ (payload-at (c .before .before .before)) (c .taken3 .ensures)
+
+add-result : tie.Need-add-result Inv-loop μ-loop
+add-result c = omega (arith, returns c .next, c .before .before .before .before .before .before .before .before .before .before .before .before .before .before .before .before .before .before .before .before .pre .1)
+
+same-length : tie.Need-same-length Inv-loop μ-loop
+same-length c = put-length _ _ _ _ _ (returns c)
 
 pub put-message-spec : {M : Type 1} → statement M
 put-message-spec =
@@ -136,19 +116,22 @@ put-message-spec =
     Inv-loop
     μ-loop
     sent-payload-requires
-    cast-put-header
-    put-header-requires
     part-requires
-    put-bytes-requires
+    put-header-requires
+    taken-requires
     loop-holds
     mul-record
     array-copy-out-record
     value-requires
     put-option-requires
+    taken-requires-2
+    add-next
     add-i
     loop-less
     loop-again
     part-requires-2
     put-payload-requires
+    taken-requires-3
+    add-result
     same-length
     returns)

@@ -2,7 +2,7 @@
 use mathlib.Core.Path.{_≡_, sym, _∙_}
 use mathlib.Core.Bool.{true}
 use borrow.Author.Tests.{lt-ltb, le-ltb, not-true, not-false}
-use Rattle.rfc.specs.Table.{listed}
+use Rattle.ground.specs.Table.{listed}
 use Rattle.block_value.specs.Strict.{strictNew, strictSizes}
 use Rattle.block_value.proofs.Sizes.{strict-size}
 use borrow.Author.Needs.{needs}

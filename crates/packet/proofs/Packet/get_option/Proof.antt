@@ -1,3 +1,4 @@
+-- `Packet::get_option` is the value of the record that it finds.
 use borrow.Author.Needs.{needs}
 use Rattle.packet.proofs.Packet.get_option.Statement.{statement}
 use Rattle.packet.proofs.Packet.get_option.Tie as tie

@@ -1,3 +1,4 @@
+-- `Packet::has_option` goes by the count.
 use borrow.Author.Needs.{needs}
 use Rattle.packet.proofs.Packet.has_option.Statement.{statement}
 use Rattle.packet.proofs.Packet.has_option.Tie as tie

@@ -1,3 +1,4 @@
+-- `Packet::new` is the new packet, its header being the new one.
 use Rattle.packet.specs.Packet.{newPacket}
 use borrow.Author.Needs.{needs}
 use Rattle.packet.proofs.Packet.new.Statement.{statement}

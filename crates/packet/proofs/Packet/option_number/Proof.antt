@@ -1,3 +1,4 @@
+-- `Packet::option_number`: each return by the test before it.
 use Rattle.packet.specs.Packet.{recordsOf}
 use borrow.Author.Tests.{le-leb, lt-leb}
 use Prim.Native.Nat.{_<_, _≤_}

@@ -1,3 +1,4 @@
+-- `Packet::option_value` is the value of the record at the index.
 use borrow.Author.Needs.{needs}
 use Rattle.packet.proofs.Packet.option_value.Statement.{statement}
 use Rattle.packet.proofs.Packet.option_value.Tie as tie

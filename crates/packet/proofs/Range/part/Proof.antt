@@ -1,4 +1,5 @@
-use Rattle.packet.specs.Packet.{bytesOf}
+-- `Range::part`: each return by the test of the range's end.
+use Rattle.packet.specs.Packet.{bytesIn}
 use native.Mathlib.Nat.{add-sub-cancel-left}
 use borrow.Author.Tests.{le-leb, lt-leb}
 use borrow.Author.Needs.{needs}
@@ -24,7 +25,7 @@ part-result-end : tie.Need-part-result-end
 part-result-end c = search needs
 
 returns : tie.Need-returns
-unfolding bytesOf
+unfolding bytesIn
 returns c = rw (lt-leb _ _ (c .before .if1 .taken))
 
 sub-result-2 : tie.Need-sub-result-2
@@ -37,7 +38,7 @@ part-result-end-2 : tie.Need-part-result-end-2
 part-result-end-2 c = search needs
 
 returns-2 : tie.Need-returns-2
-unfolding bytesOf
+unfolding bytesIn
 returns-2 c = rw (le-leb _ _ (c .before .if1 .left), add-sub-cancel-left)
 
 pub part-spec : {M : Type 1} → statement M

@@ -1,10 +1,12 @@
 -- `row_of` gives the row of a number: what is left of the rows has the answer for all of them.
-use Prim.Native.Nat.{_≤_, _-_}
-use mathlib.Core.Path.{_≡_, refl, sym, _∙_}
-use lib.ListN.{drop}
+use Prim.Native.Nat.{_-_, _≤_}
+use mathlib.Core.Path.{_≡_, refl, sym, _∙_, ap}
 use native.Mathlib.Omega.{arith}
+use lib.ListN.{drop}
 use Rattle.register.specs.Register.{register, rowIn}
-use Rattle.register.proofs.Rows.{row-here, row-on, row-past}
+use Rattle.register.specs.declared.row.Row.{Row}
+use Rattle.register.specs.declared.row.Listing.the-variants.{Listed}
+use Rattle.register.proofs.Rows.{row-here, row-on, row-past, row-count}
 use Rattle.register.proofs.row.row_of.Statement.{statement}
 use Rattle.register.proofs.row.row_of.Tie as tie
 
@@ -17,18 +19,15 @@ abbrev μ-loop : tie.MeasureT-loop
 loop-holds : tie.Need-loop-holds Inv-loop μ-loop
 loop-holds c = (omega arith, refl)
 
-mul-row : tie.Need-mul-row Inv-loop μ-loop
-mul-row c = omega arith
-
-array-copy-out-row : tie.Need-array-copy-out-row Inv-loop μ-loop
-array-copy-out-row c = omega arith
+row-at-requires : tie.Need-row-at-requires Inv-loop μ-loop
+row-at-requires c κs = omega (arith, row-count)
 
 returns : tie.Need-returns Inv-loop μ-loop
-unfolding register
 returns c =
     let l = c .before .before .before .before .loop in
     let n = c .before .before .before .before .before .args .number in
-    sym (l .inv .1 ∙ row-here n (l .i) register (omega arith) (c .if1 .taken))
+    let is = c .before .before .row-at .ensures in
+    ap Listed is ∙ sym (l .inv .1 ∙ row-here n (l .i) register (omega (arith, row-count)) (sym (ap (λ (r : Row). r .0) is) ∙ c .if1 .taken))
 
 add-i : tie.Need-add-i Inv-loop μ-loop
 add-i c = omega arith
@@ -37,17 +36,16 @@ loop-less : tie.Need-loop-less Inv-loop μ-loop
 loop-less c = omega arith
 
 loop-again : tie.Need-loop-again Inv-loop μ-loop
-unfolding register
 loop-again c =
     let l = c .before .before .before .before .loop in
     let n = c .before .before .before .before .before .args .number in
-    (omega arith, l .inv .1 ∙ row-on n (l .i) register (omega arith) (c .if1 .left))
+    let is = c .before .before .row-at .ensures in
+    (omega arith, l .inv .1 ∙ row-on n (l .i) register (omega (arith, row-count)) (λ e. c .if1 .left (ap (λ (r : Row). r .0) is ∙ e)))
 
 returns-2 : tie.Need-returns-2 Inv-loop μ-loop
-unfolding register
 returns-2 c =
     let l = c .before .loop in
-    sym (l .inv .1 ∙ row-past (c .before .before .args .number) (l .i) register (omega arith))
+    sym (l .inv .1 ∙ row-past (c .before .before .args .number) (l .i) register (omega (arith, row-count)))
 
 pub row-of-spec : {M : Type 1} → statement M
 row-of-spec =
@@ -56,8 +54,7 @@ row-of-spec =
     Inv-loop
     μ-loop
     loop-holds
-    mul-row
-    array-copy-out-row
+    row-at-requires
     returns
     add-i
     loop-less

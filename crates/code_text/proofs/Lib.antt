@@ -1,0 +1,2 @@
+pub mod CodeText
+mod Examples

@@ -1,0 +1,3 @@
+pub mod Filling
+pub mod Reading
+pub mod Laws

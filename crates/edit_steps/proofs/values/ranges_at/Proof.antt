@@ -1,0 +1,87 @@
+-- `ranges_at` is safe and ends: each turn counts a range, of which a line has fewer than bytes.
+use Prim.Native.Nat.{_-_, _≤_}
+use native.Mathlib.Omega.{arith}
+use lib.ListN.{length}
+use Rattle.edit_steps.proofs.values.ranges_at.Statement.{statement}
+use Rattle.edit_steps.proofs.values.ranges_at.Tie as tie
+
+abbrev Inv-loop : tie.InvT-loop
+Inv-loop line at end ranges₀ count₀ next₀ i₀ ranges count next i = i ≤ length line
+
+abbrev μ-loop : tie.MeasureT-loop
+μ-loop line at end ranges₀ count₀ next₀ i₀ ranges count next i = length line - i
+
+loop-holds : tie.Need-loop-holds Inv-loop μ-loop
+loop-holds c = omega arith
+
+separator-requires : tie.Need-separator-requires Inv-loop μ-loop
+separator-requires c κs = tt
+
+range-at-requires : tie.Need-range-at-requires Inv-loop μ-loop
+range-at-requires c κs = tt
+
+mul-ranges : tie.Need-mul-ranges Inv-loop μ-loop
+mul-ranges c = omega arith
+
+mul-ranges-2 : tie.Need-mul-ranges-2 Inv-loop μ-loop
+mul-ranges-2 c = omega arith
+
+array-write-ranges : tie.Need-array-write-ranges Inv-loop μ-loop
+array-write-ranges c = omega arith
+
+mul-ranges-3 : tie.Need-mul-ranges-3 Inv-loop μ-loop
+mul-ranges-3 c = omega arith
+
+add-ranges : tie.Need-add-ranges Inv-loop μ-loop
+add-ranges c = omega arith
+
+mul-ranges-4 : tie.Need-mul-ranges-4 Inv-loop μ-loop
+mul-ranges-4 c = omega arith
+
+array-write-ranges-2 : tie.Need-array-write-ranges-2 Inv-loop μ-loop
+array-write-ranges-2 c = omega arith
+
+add-count : tie.Need-add-count Inv-loop μ-loop
+add-count c = omega arith
+
+add-i : tie.Need-add-i Inv-loop μ-loop
+add-i c = omega arith
+
+byte-at-requires : tie.Need-byte-at-requires Inv-loop μ-loop
+byte-at-requires c κs = tt
+
+returns : tie.Need-returns Inv-loop μ-loop
+returns c = tt
+
+loop-less : tie.Need-loop-less Inv-loop μ-loop
+loop-less c = omega arith
+
+loop-again : tie.Need-loop-again Inv-loop μ-loop
+loop-again c = omega arith
+
+returns-2 : tie.Need-returns-2 Inv-loop μ-loop
+returns-2 c = tt
+
+pub ranges-at-spec : {M : Type 1} → statement M
+ranges-at-spec =
+    tie.close
+    (tie.spec
+    Inv-loop
+    μ-loop
+    loop-holds
+    separator-requires
+    range-at-requires
+    mul-ranges
+    mul-ranges-2
+    array-write-ranges
+    mul-ranges-3
+    add-ranges
+    mul-ranges-4
+    array-write-ranges-2
+    add-count
+    add-i
+    byte-at-requires
+    returns
+    loop-less
+    loop-again
+    returns-2)

@@ -1,0 +1,129 @@
+-- What reading hands over leads back to the packet that was read, so writing it is copying the datagram.
+use Prim.Native.Nat.{ℕ, zero, suc, _+_, _-_, _/_, _%_, _≤_}
+use mathlib.Core.Path.{_≡_, refl, sym, ap, subst, _∙_}
+use mathlib.Core.Bool.{Bool, not}
+use mathlib.Core.List.{List, _++_}
+use native.Mathlib.Omega.{arith}
+use lib.Dec.{ltb, eqb}
+use lib.ListN.{length, drop, getD, replicate}
+use lib.Seq.{drop-append-seam}
+use borrow.Author.Tests.{le-ltb}
+use Rattle.ground.specs.Choice.{both, either}
+use Rattle.ground.specs.Part.{Bytes}
+use Rattle.ground.proofs.Choice.{on, on-lt, on-le, on-eq}
+use Rattle.refusal.specs.Answer.{Answer, given, refused, onward}
+use Rattle.refusal.proofs.Answers.{Given, on-given, given-onward}
+use Rattle.class.specs.Class.{byteOf, classOf}
+use Rattle.header.specs.Header.{headerOf, rawIn, versionOf, tokenOf}
+use Rattle.header.specs.declared.HeaderRaw.{HeaderRaw}
+use Rattle.class.proofs.Class.{class-back}
+use Rattle.packet.specs.Packet.{none, recordsOf}
+use Rattle.packet.specs.declared.Packet.{Packet}
+use Rattle.judging.proofs.Good.{good}
+use Rattle.option_reading.specs.Option.{Place, ended, option, extended, valueAt, lengthAt, optionAt, placeAt, end}
+use Rattle.reading.specs.Options.{Tail, options, before}
+use Rattle.reading.specs.Reading.{longest, packetOf, finished, afterHeader, reading}
+use Rattle.reading.proofs.Accept.{records-found}
+use Rattle.reading.proofs.Sound.{given-place}
+use Rattle.reading.proofs.Kept.{Kept, kept}
+use Rattle.flat.specs.Flat.{flat}
+use Rattle.unflat.specs.Made.{Spared, Made}
+use Rattle.unflat.proofs.Inverse.{unflat-flat}
+use Rattle.unflat.proofs.Longer.{longer}
+use Rattle.ffi.specs.Copied.{packetOver, copying}
+
+-- What holds of every packet that is read, whatever the bytes: its class, its spare fields, and its array past the count.
+record Filled (p : Packet) : Type 0 where
+  class : classOf (byteOf (p .header .code)) ≡ p .header .code
+  spare : Spared (recordsOf p)
+  rest : drop (p .count) (p .options) ≡ replicate (128 - p .count) none
+
+-- An option that is read has a spare field of 0.
+abbrev Spare : Place → Type 0
+Spare (ended marked payload) = Unit {0}
+Spare (option r) = r .spare ≡ 0
+
+-- What holds of every value that goes on holds at the end.
+ever : {A B : Type 0} (Q : B → Type 0) (a : Answer A) (next : A → Answer B) → ((v : A) → Given Q (next v)) → Given Q (onward a next)
+ever Q (given v) next f = f v
+ever Q (refused k) next f = tt
+
+always : {A B : Type 0} (a : Answer A) → B → Given (λ _. B) a
+always (given v) b = b
+always (refused k) b = tt
+
+spare-value : (s : List ℕ) (number start len : ℕ) → Given Spare (valueAt s number start len)
+unfolding valueAt
+spare-value s number start len =
+    on-lt (Given Spare) 65535 number (λ _. tt) (λ _. on-lt (Given Spare) (length s - start) len (λ _. tt) (λ _. refl))
+
+spare-place : (most : ℕ) (s : List ℕ) (number at : ℕ) → Given Spare (placeAt most s number at)
+unfolding placeAt optionAt lengthAt
+spare-place most s number at =
+    on-le (Given Spare) (length s) at (λ _. tt)
+    (λ _. on-eq (Given Spare) (getD s at 0) 255 (λ _. tt)
+    (λ _. ever Spare (extended 3 65535 s (at + 1) (getD s at 0 / 16)) _
+    (λ delta. ever Spare (extended 4 most s (delta .next) (getD s at 0 % 16)) _
+    (λ len. spare-value s (number + delta .value) (len .next) (len .value)))))
+
+abbrev SparedTail : Tail → Type 0
+SparedTail t = Spared (t .records)
+
+spared : (most : ℕ) (s : List ℕ) (room number at : ℕ) → Given SparedTail (options most s room number at)
+unfolding options
+spared most s zero number at =
+    given-place Spare SparedTail (placeAt most s number at) _ (spare-place most s number at) (λ marked payload _. tt) (λ r _. tt)
+spared most s (suc room) number at =
+    given-place Spare SparedTail (placeAt most s number at) _ (spare-place most s number at) (λ marked payload _. tt)
+    (λ r e. given-onward SparedTail SparedTail (options most s room (r .number) (end r)) (before r) (spared most s room (r .number) (end r)) (λ t h. (e, h)))
+
+packet-filled : (s : List ℕ) (raw : HeaderRaw) (t : Tail) → Spared (t .records) → Filled (packetOf s raw t)
+unfolding packetOf headerOf
+packet-filled s raw t h =
+    record {
+      class = class-back (raw .code);
+      spare = subst Spared (sym (records-found s raw t)) h;
+      rest = drop-append-seam (t .records) (replicate (128 - length (t .records)) none);
+    }
+
+after-filled : (strict : Bool) (s : List ℕ) (raw : HeaderRaw) → Given Filled (afterHeader strict s raw)
+unfolding afterHeader finished
+after-filled strict s raw =
+    on (Given Filled) (both strict (not (eqb (versionOf raw) 1))) (λ _. tt)
+    (λ _. on (Given Filled) (either (ltb 8 (tokenOf raw)) (ltb (length s) (4 + tokenOf raw))) (λ _. tt)
+    (λ _. on (Given Filled) (both strict (both (eqb (raw .code) 0) (either (ltb 4 (length s)) (not (eqb (tokenOf raw) 0))))) (λ _. tt)
+    (λ _. given-onward SparedTail Filled (options (longest strict) s 128 0 (4 + tokenOf raw)) _ (spared (longest strict) s 128 0 (4 + tokenOf raw))
+    (λ t h. on (Given Filled) (both strict (both (t .marked) (eqb (t .payload) (length s)))) (λ _. tt) (λ _. packet-filled s raw t h)))))
+
+filled : (strict : Bool) (s : List ℕ) → Given Filled (reading strict s)
+unfolding reading
+filled strict s =
+    on-lt (Given Filled) 70000 (length s) (λ _. tt)
+    (λ _. ever Filled (rawIn s) (afterHeader strict s) (after-filled strict s))
+
+fits : (strict : Bool) (s : List ℕ) → Given (λ _. length s ≤ 70000) (reading strict s)
+unfolding reading
+fits strict s =
+    on-lt (Given (λ _. length s ≤ 70000)) 70000 (length s) (λ _. tt)
+    (λ h. always (onward (rawIn s) (afterHeader strict s)) h)
+
+module _ (strict : Bool) (s : List ℕ) (b : Bytes s) (p : Packet) (e : reading strict s ≡ given p) where
+  -- A packet that was read is made.
+  pub read-made : Made p
+  read-made =
+      let k : Kept s p = on-given (Kept s) (reading strict s) p (kept strict s b) e in
+      let f : Filled p = on-given Filled (reading strict s) p (filled strict s) e in
+      let g = good (length s) p (k .0) in
+      record { version = omega (arith, g .version); class = f .class; count = g .count; spare = f .spare; rest = f .rest }
+
+  -- Its flat form, with whatever stands after it, is taken for that packet.
+  pub read-back : (rest : List ℕ) → packetOver s (flat p ++ rest) ≡ given p
+  unfolding packetOver
+  read-back rest =
+      let k : Kept s p = on-given (Kept s) (reading strict s) p (kept strict s b) e in
+      let h : length s ≤ 70000 = on-given (λ _. length s ≤ 70000) (reading strict s) p (fits strict s) e in
+      rw (le-ltb 70000 (length s) h) (longer (flat p) rest p (unflat-flat p (k .1) read-made))
+
+  -- So the flat form of what was read is written as the datagram is copied.
+  pub write-copies : (mode : Bool) (room : ℕ) (rest : List ℕ) → copying mode room s (packetOver s (flat p ++ rest)) ≡ copying mode room s (reading strict s)
+  write-copies mode room rest = ap (copying mode room s) (read-back rest ∙ sym e)

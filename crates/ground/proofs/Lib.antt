@@ -1,0 +1,4 @@
+mod Examples
+pub mod Choice
+pub mod Part
+pub mod Table

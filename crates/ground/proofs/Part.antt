@@ -1,0 +1,43 @@
+-- Laws of parts: bytes of a part are bytes, and the kit's `sets` for what stands in an output piece by piece.
+use Prim.Native.Nat.{ℕ, zero, suc, _+_, _<_, _≤_}
+use mathlib.Core.Path.{_≡_, sym, _∙_, ap}
+use mathlib.Core.List.{List, [], _∷_, _++_}
+use native.Mathlib.Nat.{add-zero, zero-add, add-suc, suc-add}
+use native.Mathlib.Omega.{arith}
+use lib.ListN.{length, take, drop, getD, set}
+use lib.Seq.{sets, sets-eq}
+use Rattle.ground.specs.Part.{Bytes}
+
+pub bytes-take : (n : ℕ) (s : List ℕ) → Bytes s → Bytes (take n s)
+bytes-take zero s b = tt
+bytes-take (suc n) [] b = tt
+bytes-take (suc n) (x ∷ s) b = (b .0, bytes-take n s (b .1))
+
+pub bytes-drop : (n : ℕ) (s : List ℕ) → Bytes s → Bytes (drop n s)
+bytes-drop zero s b = b
+bytes-drop (suc n) [] b = tt
+bytes-drop (suc n) (x ∷ s) b = bytes-drop n s (b .1)
+
+pub bytes-append : (s t : List ℕ) → Bytes s → Bytes t → Bytes (s ++ t)
+bytes-append [] t a b = b
+bytes-append (x ∷ s) t a b = (a .0, bytes-append s t (a .1) b)
+
+pub byte-at : (s : List ℕ) (i : ℕ) → Bytes s → getD s i 0 < 256
+byte-at [] i b = omega arith
+byte-at (x ∷ s) zero b = b .0
+byte-at (x ∷ s) (suc i) b = byte-at s i (b .1)
+
+-- A list whose every element is below 256 is bytes.
+pub bytes-of : (s : List ℕ) → ((i : ℕ) → getD s i 0 < 256) → Bytes s
+bytes-of [] f = tt
+bytes-of (x ∷ s) f = (f 0, bytes-of s (λ i. f (suc i)))
+
+-- Two pieces put one after the other are one piece.
+pub sets-append : (l : List ℕ) (i : ℕ) (vs ws : List ℕ) → sets l i (vs ++ ws) ≡ sets (sets l i vs) (i + length vs) ws
+sets-append l i [] ws = rw add-zero
+sets-append l i (v ∷ vs) ws =
+    sets-append (set l i v) (suc i) vs ws ∙ ap (λ (k : ℕ). sets (sets l i (v ∷ vs)) k ws) (suc-add i (length vs) ∙ sym (add-suc i (length vs)))
+
+-- Bytes put at the front, said without `sets`.
+pub put-front : (l vs : List ℕ) → length vs ≤ length l → sets l 0 vs ≡ vs ++ drop (length vs) l
+put-front l vs h = sets-eq vs l 0 (rw zero-add h) ∙ rw zero-add

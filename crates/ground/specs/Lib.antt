@@ -1,0 +1,3 @@
+pub mod Choice
+pub mod Part
+pub mod Table

@@ -1,0 +1,77 @@
+-- No second answer meets a promise: the law, and each definition that tells answers apart.
+use mathlib.Core.Path.{sym, ap, _∙_, _≡_, refl}
+use Rattle.refusal.specs.Number.{numberOf}
+use Rattle.refusal.proofs.Distinct.{distinct, one-written, one-outcome}
+use Rattle.decimal.specs.Decimal.{decimalOf}
+use Rattle.decimal.specs.declared.Decimal.the-variants.{Value, Bad}
+use Rattle.code_text.proofs.CodeText.{one-code}
+use Rattle.option_value.proofs.Distinct.{one-uint, one-u8, one-u16, one-u32, one-u64, one-text}
+use Rattle.header.proofs.Raw.{one-raw, one-setting}
+use Rattle.block_value.proofs.Distinct.{one-built, one-sized}
+use Rattle.judging.proofs.Good.{one-judged}
+use Rattle.option_reading.specs.Answers.{foundOf}
+use Rattle.option_reading.specs.declared.Found.the-variants.{End, Option, Refused}
+use Rattle.splicing.proofs.Distinct.{one-edited}
+use Rattle.typed_options.proofs.Distinct.{one-observe}
+use Rattle.register.proofs.First.{one-checked}
+use Rattle.unflat.specs.Unflat.{taken}
+use Rattle.refusal.specs.Answer.{Beside}
+use Rattle.packet.specs.declared.Packet.{Packet}
+use Rattle.reading.specs.Reading.{decoded}
+use Rattle.guarantees.specs.Determined.{TellsApart, OneAnswer, Told}
+
+pub one-answer : OneAnswer
+one-answer A B f t d x y e q = t x y (e ∙ sym q)
+
+one-decimal : TellsApart decimalOf
+one-decimal (Value m) (Value n) e = cc
+one-decimal (Value m) Bad e = cc
+one-decimal Bad (Value n) e = cc
+one-decimal Bad Bad e = refl
+
+one-place : TellsApart foundOf
+one-place (End a m) (End b n) e = cc
+one-place (End a m) (Option s) e = cc
+one-place (End a m) (Refused y) e = cc
+one-place (Option r) (End b n) e = cc
+one-place (Option r) (Option s) e = cc
+one-place (Option r) (Refused y) e = cc
+one-place (Refused x) (End b n) e = cc
+one-place (Refused x) (Option s) e = cc
+one-place (Refused x) (Refused y) e = let k : numberOf x ≡ numberOf y = cc in rw (distinct x y k)
+
+one-taken : TellsApart taken
+one-taken x y e =
+    let o = one-outcome (x .outcome) (y .outcome) (ap (λ (r : Beside Packet). r .answer) e) in
+    λ i. record { outcome = o i; packet = ap (λ (r : Beside Packet). r .value) e i }
+
+one-decoded : TellsApart decoded
+one-decoded x y e =
+    let o = one-outcome (x .outcome) (y .outcome) (ap (λ (r : Beside Packet). r .answer) e) in
+    λ i. record { outcome = o i; packet = ap (λ (r : Beside Packet). r .value) e i }
+
+pub told : Told
+told =
+    record {
+      writers = one-written;
+      outcomes = one-outcome;
+      decimals = one-decimal;
+      code-texts = one-code;
+      uints = one-uint;
+      uints-8 = one-u8;
+      uints-16 = one-u16;
+      uints-32 = one-u32;
+      uints-64 = one-u64;
+      texts = one-text;
+      raw-headers = one-raw;
+      codes = one-setting;
+      blocks = one-built;
+      block-sizes = one-sized;
+      judgements = one-judged;
+      places = one-place;
+      packets-read = one-decoded;
+      edits = one-edited;
+      observe-values = one-observe;
+      checks = one-checked;
+      flat-packets = one-taken;
+    }

@@ -1,0 +1,37 @@
+-- What a refused call leaves, from the shapes of the promises.
+use mathlib.Core.Path.{_≡_, refl, sym, ap, _∙_}
+use mathlib.Core.Logic.{inl, inr}
+use Rattle.refusal.specs.Answer.{Answer, given, refused, outcome, written, Beside, beside}
+use Rattle.refusal.specs.Number.{numberOf}
+use Rattle.refusal.specs.declared.Outcome.{Outcome}
+use Rattle.refusal.specs.declared.Outcome.the-variants.{Done, Refused as Not}
+use Rattle.refusal.proofs.Answers.{not-refused, was-refused, old-beside}
+use Rattle.refusal.proofs.Distinct.{number-listed}
+use Rattle.packet.specs.Packet.{newPacket}
+use Rattle.reading.specs.Reading.{reading}
+use Rattle.guarantees.specs.Refusals.{Numbered, OutputKept, DoneOr, NoPacketRead, PacketKept, StoreKept, HeaderKept}
+
+pub numbered : Numbered
+numbered = number-listed
+
+pub output-kept : OutputKept
+output-kept (given n) at bytes old r new w s e is = not-refused (sym w ∙ ap written is)
+output-kept (refused k) at bytes old r new w s e is = s
+
+-- An outcome with a value beside it.
+besides : {A : Type 0} (o : Outcome) (v old : A) (a : Answer A) → _≡_ {A = Beside A} (record { answer = outcome o; value = v }) (beside old a) → DoneOr o v old
+besides Done v old a e = inl refl
+besides (Not k) v old a e = inr (k, refl, old-beside old a (record { answer = outcome (Not k); value = v }) e (numberOf k) refl)
+
+pub no-packet-read : NoPacketRead
+no-packet-read strict s d q = besides (d .outcome) (d .packet) newPacket (reading strict s) q
+
+pub packet-kept : PacketKept
+packet-kept a old r q = besides (r .outcome) (r .packet) old a q
+
+pub store-kept : StoreKept
+store-kept (given p) old r start bytes store new q e is = not-refused (was-refused old (given p) _ (q .answer) (numberOf e) (ap outcome is))
+store-kept (refused k) old r start bytes store new q e is = q .store
+
+pub header-kept : HeaderKept
+header-kept a old r q = besides (r .outcome) (r .header) old a q

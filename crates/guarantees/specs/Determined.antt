@@ -1,0 +1,49 @@
+-- No second answer meets a promise. A promise is an equation between the answer, told by a definition, and a definition of the
+-- arguments; so it has one answer where that definition tells answers apart.
+use mathlib.Core.Path.{_≡_}
+use Rattle.refusal.specs.Answer.{written, outcome}
+use Rattle.decimal.specs.Decimal.{decimalOf}
+use Rattle.code_text.specs.CodeText.{codeOf}
+use Rattle.option_value.specs.Uint.{uintOf, readU8, readU16, readU32, readU64}
+use Rattle.option_value.specs.Text.{textOf}
+use Rattle.header.specs.Header.{rawRead, settingOf}
+use Rattle.block_value.specs.Answers.{built, sized}
+use Rattle.judging.specs.Judge.{judged}
+use Rattle.option_reading.specs.Answers.{foundOf}
+use Rattle.reading.specs.Reading.{decoded}
+use Rattle.splicing.specs.Edited.{edited}
+use Rattle.typed_options.specs.Getters.{observed}
+use Rattle.register.specs.Check.{checked}
+use Rattle.unflat.specs.Unflat.{taken}
+
+-- Different answers are told differently.
+abbrev pub TellsApart : {A B : Type 0} → (A → B) → Type 0
+TellsApart {A} f = (x y : A) → f x ≡ f y → x ≡ y
+
+-- An equation has one answer.
+abbrev pub OneAnswer : Type 1
+OneAnswer = (A B : Type 0) (f : A → B) → TellsApart f → (d : B) (x y : A) → f x ≡ d → f y ≡ d → x ≡ y
+
+-- Every definition that a promise tells its answer by. (The other promises name the answer itself.)
+pub record Told : Type 0 where
+  pub writers : TellsApart written
+  pub outcomes : TellsApart outcome
+  pub decimals : TellsApart decimalOf
+  pub code-texts : TellsApart codeOf
+  pub uints : TellsApart uintOf
+  pub uints-8 : TellsApart readU8
+  pub uints-16 : TellsApart readU16
+  pub uints-32 : TellsApart readU32
+  pub uints-64 : TellsApart readU64
+  pub texts : TellsApart textOf
+  pub raw-headers : TellsApart rawRead
+  pub codes : TellsApart settingOf
+  pub blocks : TellsApart built
+  pub block-sizes : TellsApart sized
+  pub judgements : TellsApart judged
+  pub places : TellsApart foundOf
+  pub packets-read : TellsApart decoded
+  pub edits : TellsApart edited
+  pub observe-values : TellsApart observed
+  pub checks : TellsApart checked
+  pub flat-packets : TellsApart taken

@@ -1,0 +1,57 @@
+-- Every operation answers a value or one numbered refusal, and a refused call changes no lent byte, no packet and no header.
+use Prim.Native.Nat.{ℕ}
+use mathlib.Core.Path.{_≡_}
+use mathlib.Core.Bool.{Bool}
+use mathlib.Core.List.{List}
+use mathlib.Core.Logic.{_⊎_}
+use lib.Dec.{T}
+use Rattle.ground.specs.Table.{listed}
+use Rattle.refusal.specs.Answer.{Answer, written, after, beside}
+use Rattle.refusal.specs.Number.{numberOf, numbers}
+use Rattle.refusal.specs.declared.Refusal.{Refusal}
+use Rattle.refusal.specs.declared.Written.{Written}
+use Rattle.refusal.specs.declared.Written.the-variants.{Refused}
+use Rattle.refusal.specs.declared.Outcome.{Outcome}
+use Rattle.refusal.specs.declared.Outcome.the-variants.{Done, Refused as Not}
+use Rattle.header.specs.Header.{settingOf}
+use Rattle.header.specs.declared.Header.{Header}
+use Rattle.header.specs.declared.HeaderSet.{HeaderSet}
+use Rattle.packet.specs.Packet.{newPacket}
+use Rattle.packet.specs.declared.Packet.{Packet}
+use Rattle.reading.specs.Reading.{FromBytes}
+use Rattle.reading.specs.declared.Decoded.{Decoded}
+use Rattle.splicing.specs.Edited.{Edits}
+use Rattle.splicing.specs.declared.Edited.{Edited}
+use Rattle.typed_options.specs.Setters.{Sets}
+
+-- A refusal's number is one of those that there are.
+abbrev pub Numbered : Type 0
+Numbered = (e : Refusal) → T (listed (numberOf e) numbers)
+
+-- A refused writer leaves the output as it was, whatever its answer and its bytes are, and wherever it puts them.
+abbrev pub OutputKept : Type 0
+OutputKept =
+    (a : Answer ℕ) (at : ℕ) (bytes old : List ℕ) (r : Written) (new : List ℕ) → written r ≡ a → new ≡ after a at bytes old
+    → (e : Refusal) → r ≡ Refused e → new ≡ old
+
+-- It is done, or it is refused and what stands beside the refusal is the old value.
+abbrev pub DoneOr : Outcome → {A : Type 0} → A → A → Type 0
+DoneOr o value old = (o ≡ Done) ⊎ ((e : Refusal) × (o ≡ Not e) × (value ≡ old))
+
+-- Beside a refused reading stands the new packet.
+abbrev pub NoPacketRead : Type 0
+NoPacketRead = (strict : Bool) (s : List ℕ) (d : Decoded) → FromBytes strict s d → DoneOr (d .outcome) (d .packet) newPacket
+
+-- A refused edit hands back the packet as it came.
+abbrev pub PacketKept : Type 0
+PacketKept = (a : Answer Packet) (old : Packet) (r : Edited) → Edits old a r → DoneOr (r .outcome) (r .packet) old
+
+-- A refused setter leaves the store as it was, too.
+abbrev pub StoreKept : Type 0
+StoreKept =
+    (a : Answer Packet) (old : Packet) (r : Edited) (start : ℕ) (bytes store new : List ℕ) → Sets old a start bytes store r new
+    → (e : Refusal) → r .outcome ≡ Not e → new ≡ store
+
+-- A header that is set from refused text is the header as it came.
+abbrev pub HeaderKept : Type 0
+HeaderKept = (a : Answer Header) (old : Header) (r : HeaderSet) → settingOf r ≡ beside old a → DoneOr (r .outcome) (r .header) old

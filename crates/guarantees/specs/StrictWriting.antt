@@ -1,0 +1,48 @@
+-- Strict writing: any packet that means a well-formed message and isn't refused 10 or 11, with enough limit and room, is written
+-- as the message's RFC 7252 layout; nothing else is written. And what is written is read back, and the other way round.
+use Prim.Native.Nat.{ℕ, _≤_}
+use mathlib.Core.Path.{_≡_}
+use mathlib.Core.Logic.{_↔_}
+use mathlib.Core.Bool.{true, false}
+use mathlib.Core.List.{List, _++_}
+use lib.ListN.{length, drop}
+use Rattle.rfc.specs.Message.{Message, WellFormed, layout}
+use Rattle.ground.specs.Part.{Bytes}
+use Rattle.refusal.specs.declared.Written.{Written}
+use Rattle.refusal.specs.declared.Written.the-variants.{Length}
+use Rattle.judging.specs.Judge.{badPacket}
+use Rattle.packet.specs.Limits.{maxStore}
+use Rattle.packet.specs.Meaning.{meaning}
+use Rattle.packet.specs.Shape.{Shaped}
+use Rattle.packet.specs.declared.Packet.{Packet}
+use Rattle.measuring.specs.Measuring.{over}
+use Rattle.measuring.specs.declared.Limit.{Limit}
+use Rattle.writing.specs.Writing.{ToBytes}
+
+-- The packet isn't refused 10 or 11.
+pub record Sound (s : List ℕ) (p : Packet) : Type 0 where
+  pub store : length s ≤ maxStore
+  pub records : badPacket (length s) p ≡ false
+
+-- Limit and room are enough for these bytes.
+pub record Enough (limit : Limit) (room : ℕ) (bytes : List ℕ) : Type 0 where
+  pub within : over limit (length bytes) ≡ false
+  pub fits : length bytes ≤ room
+
+-- What was written: the answer is the length of the bytes, which stand in the output before what stood after them.
+pub record Wrote (bytes old : List ℕ) (r : Written) (new : List ℕ) : Type 0 where
+  pub answer : r ≡ Length (length bytes)
+  pub output : new ≡ bytes ++ drop (length bytes) old
+
+pub record StrictWriting (limit : Limit) (p : Packet) (s old : List ℕ) (r : Written) (new : List ℕ) : Type 0 where
+  -- A packet that means a well-formed message is written as its layout.
+  pub writes : (m : Message) → WellFormed m → meaning s p ≡ m → Sound s p → Enough limit (length old) (layout m) → Wrote (layout m) old r new
+  -- It is written exactly when its meaning is well-formed, nothing is refused 10 or 11, and limit and room suffice.
+  pub exactly : ((n : ℕ) × (r ≡ Length n)) ↔ (WellFormed (meaning s p) × Sound s p × Enough limit (length old) (layout (meaning s p)))
+
+-- So it is of every packet that a function can be handed, of every store, limit and output, and of every answer that meets the
+-- promise.
+abbrev pub WritesStrictly : Type 0
+WritesStrictly =
+    (limit : Limit) (p : Packet) → Shaped p → (s : List ℕ) → Bytes s → (old : List ℕ) (r : Written) (new : List ℕ)
+    → ToBytes true limit p s old r new → StrictWriting limit p s old r new

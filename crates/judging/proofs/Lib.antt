@@ -1,0 +1,4 @@
+pub mod Order
+pub mod Places
+pub mod Good
+pub mod Judging

@@ -1,0 +1,13 @@
+-- `lower`: each return by the test.
+use borrow.Author.Tests.{lt-ltb, le-ltb}
+use Rattle.judging.proofs.lower.Statement.{statement}
+use Rattle.judging.proofs.lower.Tie as tie
+
+returns : tie.Need-returns
+returns c = rw (lt-ltb _ _ (c .if1 .taken))
+
+returns-2 : tie.Need-returns-2
+returns-2 c = rw (le-ltb _ _ (c .if1 .left))
+
+pub lower-spec : {M : Type 1} → statement M
+lower-spec = tie.close (tie.spec returns returns-2)

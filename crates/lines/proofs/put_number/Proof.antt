@@ -1,0 +1,20 @@
+-- `put_number` meets its contract: the word and then the number.
+use Rattle.placing.proofs.Puts.{puts-puts}
+use borrow.Author.Needs.{needs}
+use Rattle.lines.proofs.put_number.Statement.{statement}
+use Rattle.lines.proofs.put_number.Tie as tie
+
+put-bytes-requires : tie.Need-put-bytes-requires
+put-bytes-requires c κs = search needs
+
+put-decimal-requires : tie.Need-put-decimal-requires
+put-decimal-requires c κs = search needs
+
+same-length : tie.Need-same-length
+same-length c = search needs
+
+returns : tie.Need-returns
+returns c = puts-puts (c .before .before .before .before .before .before .put-bytes .ensures) (c .before .before .put-decimal .ensures)
+
+pub put-number-spec : {M : Type 1} → statement M
+put-number-spec = tie.close (tie.spec put-bytes-requires put-decimal-requires same-length returns)

@@ -1,0 +1,3 @@
+mod Copied
+pub mod Places
+pub mod Distinct

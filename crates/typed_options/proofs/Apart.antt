@@ -1,0 +1,58 @@
+-- Bytes put into a store: a range that they do not touch names what it named, and their own range names them.
+use Prim.Native.Nat.{ℕ, suc, _+_, _-_, _≤_}
+use mathlib.Core.Path.{_≡_, refl, ap, _∙_}
+use mathlib.Core.List.{List, [], _∷_, _++_, map, append-assoc}
+use mathlib.Core.Logic.{⊎-elim}
+use native.Mathlib.Omega.{arith}
+use lib.ListN.{length, take, drop, set}
+use lib.Seq.{sets, sets-eq, length-sets, drop-set-lt, drop-set-add, take-set-le, take-at, drop-at, length-take-le}
+use borrow.Author.Tests.{le-leb}
+use Rattle.packet.specs.Packet.{bytesIn, recordsOf}
+use Rattle.packet.specs.Meaning.{optionOf, meaning}
+use Rattle.packet.specs.declared.Packet.{Packet}
+use Rattle.packet.specs.declared.OptionRecord.{OptionRecord}
+use Rattle.typed_options.specs.Apart.{Apart, AllApart, Untouched}
+
+-- A part that ends before the first byte, and a part that starts after the last.
+part-before : (vs l : List ℕ) (i from size : ℕ) → from + size ≤ i → take size (drop from (sets l i vs)) ≡ take size (drop from l)
+part-before [] l i from size h = refl
+part-before (v ∷ vs) l i from size h =
+    let e : i ≡ from + (i - from) = omega arith in
+    part-before vs (set l i v) (suc i) from size (omega arith)
+    ∙ (ap (λ (k : ℕ). take size (drop from (set l k v))) e
+    ∙ (ap (take size) (drop-set-add from l (i - from) v) ∙ take-set-le size (drop from l) (i - from) v (omega arith)))
+
+part-after : (vs l : List ℕ) (i from : ℕ) → i + length vs ≤ from → drop from (sets l i vs) ≡ drop from l
+part-after [] l i from h = refl
+part-after (v ∷ vs) l i from h = part-after vs (set l i v) (suc i) from (omega arith) ∙ drop-set-lt from l i v (omega arith)
+
+module _ (old : List ℕ) (start : ℕ) (bytes : List ℕ) where
+  pub apart-bytes : (from size : ℕ) → Apart start (length bytes) from size → bytesIn (sets old start bytes) from size ≡ bytesIn old from size
+  unfolding bytesIn
+  apart-bytes from size a =
+      let same : take size (drop from (sets old start bytes)) ≡ take size (drop from old) =
+      ⊎-elim (λ h. part-before bytes old start from size h) (λ h. ap (take size) (part-after bytes old start from h)) a in
+      rw (length-sets old start bytes, same) refl
+
+  pub own-bytes : start + length bytes ≤ length old → bytesIn (sets old start bytes) start (length bytes) ≡ bytes
+  unfolding bytesIn
+  own-bytes h =
+      let inside : start + length bytes ≤ length (sets old start bytes) = rw length-sets h in
+      let rest = drop (start + length bytes) old in
+      let before : length (take start old) ≡ start = length-take-le start old (omega arith) in
+      rw (le-leb (start + length bytes) (length (sets old start bytes)) inside)
+      (ap (λ (l : List ℕ). take (length bytes) (drop start l)) (sets-eq bytes old start h ∙ append-assoc (take start old) bytes rest)
+      ∙ (ap (take (length bytes)) (drop-at (take start old) (bytes ++ rest) start before) ∙ take-at bytes rest (length bytes) refl))
+
+  -- The options of records, and the whole meaning.
+  pub apart-options : (rs : List OptionRecord) → AllApart start (length bytes) rs → map (optionOf (sets old start bytes)) rs ≡ map (optionOf old) rs
+  apart-options [] a = refl
+  apart-options (r ∷ rs) a =
+      let first : bytesIn (sets old start bytes) (r .start) (r .len) ≡ bytesIn old (r .start) (r .len) = apart-bytes (r .start) (r .len) (a .0) in
+      rw (first, apart-options rs (a .1)) refl
+
+  pub meaning-apart : (p : Packet) → Untouched start (length bytes) p (recordsOf p) → meaning (sets old start bytes) p ≡ meaning old p
+  meaning-apart p u =
+      let token = apart-bytes (p .token .start) (p .token .len) (u .token) in
+      let payload = apart-bytes (p .payload .start) (p .payload .len) (u .payload) in
+      rw (token, payload, apart-options (recordsOf p) (u .options)) refl

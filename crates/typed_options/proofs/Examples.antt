@@ -1,0 +1,48 @@
+-- Setters and getters computed by the definitions, so that a slip in a definition shows.
+use Prim.Native.Nat.{ℕ}
+use mathlib.Core.Path.{_≡_, refl}
+use mathlib.Core.List.{List, [], _∷_, _++_}
+use lib.ListN.{replicate}
+use Rattle.rfc.specs.Uint.{uint}
+use Rattle.refusal.specs.Answer.{given, refused, after}
+use Rattle.option_value.specs.Uint.{readUint}
+use Rattle.tables.specs.Numbers.{contentFormats}
+use Rattle.packet.specs.Packet.{newPacket, bytesIn}
+use Rattle.packet.specs.declared.Packet.{Packet}
+use Rattle.packet.specs.declared.OptionRecord.{OptionRecord}
+use Rattle.splicing.specs.Splice.{withRecords, recordOf}
+use Rattle.editing.specs.Edit.{added, optionSet}
+use Rattle.typed_options.specs.Setters.{formatSet, observeSet}
+use Rattle.typed_options.specs.Getters.{formatIn, observeIn, number}
+use Rattle.typed_options.specs.declared.ContentFormat.the-variants.{Format, None}
+
+at : ℕ → ℕ → OptionRecord
+at n start = record { number = n; spare = 0; start = start; len = 1 }
+
+-- A packet of so many records of number 11, before others.
+many : ℕ → List OptionRecord → Packet
+many n rs = withRecords newPacket (replicate n (at 11 0) ++ rs)
+
+-- Observe at 128 records: with one of them Observe it is replaced, with none it is 6, and that before 12.
+full : (observeSet (0 ∷ []) 9 (withRecords newPacket (at 6 0 ∷ replicate 127 (at 11 0))) 5 ≡ refused 12)
+    × (observeSet (0 ∷ []) 0 (withRecords newPacket (at 6 0 ∷ replicate 127 (at 11 0))) 5 ≡ given (withRecords newPacket (at 6 0 ∷ replicate 127 (at 11 0))))
+    × (observeSet (0 ∷ []) 9 (many 128 []) 5 ≡ refused 6)
+    × (observeSet (0 ∷ []) 9 (many 1 (at 6 0 ∷ [])) 5 ≡ refused 11)
+unfolding observeSet optionSet newPacket uint many at
+full = (refl, refl, refl, refl)
+
+-- A zero writes no byte, and its start still counts: the store's length is fine, one more is 12.
+zeros : (formatSet (7 ∷ []) 1 newPacket 0 ≡ given (withRecords newPacket (recordOf 12 (record { start = 1; len = 0 }) ∷ []))) × (formatSet (7 ∷ []) 2 newPacket 0 ≡ refused 12)
+unfolding formatSet added newPacket uint
+zeros = (refl, refl)
+
+-- A content format is added: after 60 and then 50 it reads 60. An unlisted one and an over-long one read as none, Observe's 0 as a number.
+formats : (formatSet (60 ∷ 0 ∷ []) 1 (withRecords newPacket (at 12 0 ∷ [])) 50 ≡ given (withRecords newPacket (at 12 0 ∷ at 12 1 ∷ [])))
+    × (after (given (tt {0})) 1 (uint 2 50) (60 ∷ 0 ∷ []) ≡ (60 ∷ 50 ∷ []))
+    × (formatIn (60 ∷ 50 ∷ []) (withRecords newPacket (at 12 0 ∷ at 12 1 ∷ [])) ≡ Format 60)
+    × (formatIn (1 ∷ []) (withRecords newPacket (at 12 0 ∷ [])) ≡ None)
+    × (formatIn (0 ∷ 0 ∷ 0 ∷ []) (withRecords newPacket (recordOf 12 (record { start = 0; len = 3 }) ∷ [])) ≡ None)
+    × (observeIn [] (withRecords newPacket (recordOf 6 (record { start = 0; len = 0 }) ∷ [])) ≡ given (number 0))
+    × (observeIn (0 ∷ 0 ∷ 0 ∷ 0 ∷ 0 ∷ []) (withRecords newPacket (recordOf 6 (record { start = 0; len = 5 }) ∷ [])) ≡ refused 13)
+unfolding formatSet added formatIn observeIn newPacket readUint bytesIn contentFormats uint at
+formats = (refl, refl, refl, refl, refl, refl, refl)

@@ -1,0 +1,7 @@
+mod Getters
+mod Setters
+pub mod Stored
+pub mod Apart
+pub mod Values
+pub mod Distinct
+mod Examples

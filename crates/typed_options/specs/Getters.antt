@@ -1,0 +1,45 @@
+-- What the getters of the content format and of Observe read: the first record of their number, as a uint.
+use Prim.Native.Nat.{ℕ}
+use mathlib.Core.List.{List, [], _∷_}
+use Rattle.ground.specs.Choice.{pick}
+use Rattle.ground.specs.Table.{listed}
+use Rattle.refusal.specs.Answer.{Answer, given, refused, onward}
+use Rattle.refusal.specs.Number.{numberOf}
+use Rattle.option_value.specs.Uint.{readUint}
+use Rattle.tables.specs.Numbers.{contentFormats}
+use Rattle.packet.specs.Packet.{valueOf, recordsOf, ofNumber}
+use Rattle.packet.specs.declared.Packet.{Packet}
+use Rattle.packet.specs.declared.OptionRecord.{OptionRecord}
+use Rattle.typed_options.specs.declared.ContentFormat.{ContentFormat}
+use Rattle.typed_options.specs.declared.ContentFormat.the-variants.{Format, None}
+use Rattle.typed_options.specs.declared.Observe.{Observe}
+use Rattle.typed_options.specs.declared.Observe.the-variants.{Value, None as Unset, Refused}
+
+-- By the first record of a list, or by there being none.
+abbrev pub onFirst {ℓ} : {A : Type ℓ} → List OptionRecord → A → (OptionRecord → A) → A
+onFirst [] absent found = absent
+onFirst (r ∷ rs) absent found = found r
+
+-- A content format is a number that is listed; an over-long value and an unlisted number read as none.
+abbrev pub formatOf : Answer ℕ → ContentFormat
+formatOf (given n) = pick (listed n contentFormats) (Format n) None
+formatOf (refused k) = None
+
+-- The content format: the first record of number 12 counts, and an absent one reads as none.
+unfoldable pub formatIn : List ℕ → Packet → ContentFormat
+formatIn s p = onFirst (ofNumber 12 (recordsOf p)) None (λ r. formatOf (readUint 2 (valueOf s r)))
+
+-- A number that may be absent.
+pub data Found : Type 0 where
+  number : ℕ → Found
+  absent : Found
+
+-- Observe: the first record of number 6 counts; it is absent, or a number, or over-long (13).
+unfoldable pub observeIn : List ℕ → Packet → Answer Found
+observeIn s p = onFirst (ofNumber 6 (recordsOf p)) (given absent) (λ r. onward (readUint 4 (valueOf s r)) (λ n. given (number n)))
+
+-- The answer of the getter of Observe.
+abbrev pub observed : Observe → Answer Found
+observed (Value n) = given (number n)
+observed Unset = given absent
+observed (Refused e) = refused (numberOf e)

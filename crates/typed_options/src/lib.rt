@@ -1,0 +1,107 @@
+// The content format and Observe of a packet: what their options say, and setting them (packet.rs).
+use editing::add_option;
+use editing::set_option;
+use option_value::OptionValueU16;
+use option_value::OptionValueU32;
+use option_value::ReadU16;
+use option_value::ReadU32;
+use packet::Packet;
+use packet::limits::MAX_STORE;
+use placing::put_uint;
+use placing::uint_length;
+use refusal::Outcome;
+use refusal::Refusal;
+use splicing::Edited;
+use splicing::refused;
+use tables::option_number;
+ghost use mathlib.Core.Path.{_≡_};
+ghost use Rattle.rfc.specs.Uint.{uint};
+ghost use Rattle.refusal.specs.Answer.{answered};
+ghost use Rattle.splicing.specs.Edited.{edited};
+ghost use Rattle.typed_options.specs.Getters.{formatIn, observed, observeIn};
+ghost use Rattle.typed_options.specs.Setters.{Sets, storing, formatSet, observeSet};
+
+// Sets the content format: adds an option whose value is written into the store from a start.
+pub fn set_content_format(packet: Packet, store: &mut [u8], start: u32, format: u16) -> Edited
+    ensures { λ r. ⌜ Sets packet (formatSet (now (store .entry)) start packet format) start (uint 2 format) (now (store .entry)) r (now (store .exit)) ⌝ }
+{
+    let value = format as u64;
+    let len = uint_length(value) as u32;
+    let edit = add_option(packet, option_number::CONTENT_FORMAT, start, len);
+    put_value(packet, edit, store, start, value)
+}
+
+// The content format of a packet: a listed one, or none.
+pub enum ContentFormat {
+    Format(u16),
+    None,
+}
+
+// Reads the content format; only the first counts.
+pub fn get_content_format(packet: Packet, store: &[u8]) -> ContentFormat
+    ensures { λ r. ⌜ r ≡ formatIn (now (store .entry)) packet ⌝ }
+{
+    if !packet.has_option(option_number::CONTENT_FORMAT) {
+        return ContentFormat::None;
+    }
+    match OptionValueU16::try_from(packet.get_first_option(store, option_number::CONTENT_FORMAT)) {
+        ReadU16::Refused(_) => ContentFormat::None,
+        ReadU16::Value(value) => {
+            if tables::is_content_format(value.0) {
+                ContentFormat::Format(value.0)
+            } else {
+                ContentFormat::None
+            }
+        }
+    }
+}
+
+// Sets the value of Observe: one option, whose value is written into the store from a start, replaces those that there are.
+pub fn set_observe_value(packet: Packet, store: &mut [u8], start: u32, value: u32) -> Edited
+    ensures { λ r. ⌜ Sets packet (observeSet (now (store .entry)) start packet value) start (uint 4 value) (now (store .entry)) r (now (store .exit)) ⌝ }
+{
+    let wide = value as u64;
+    let len = uint_length(wide) as u32;
+    let edit = set_option(packet, option_number::OBSERVE, &[start, len]);
+    put_value(packet, edit, store, start, wide)
+}
+
+// The value of Observe in a packet.
+pub enum Observe {
+    Value(u32),
+    None,
+    Refused(Refusal),
+}
+
+// Reads the value of Observe; only the first counts.
+pub fn get_observe_value(packet: Packet, store: &[u8]) -> Observe
+    ensures { λ r. ⌜ observed r ≡ observeIn (now (store .entry)) packet ⌝ }
+{
+    if !packet.has_option(option_number::OBSERVE) {
+        return Observe::None;
+    }
+    match OptionValueU32::try_from(packet.get_first_option(store, option_number::OBSERVE)) {
+        ReadU32::Refused(e) => Observe::Refused(e),
+        ReadU32::Value(value) => Observe::Value(value.0),
+    }
+}
+
+// An edit of a packet whose new value is put into the store from a start. The store's length is judged before the edit's own
+// answer counts, and the room for the value after it.
+fn put_value(packet: Packet, edit: Edited, store: &mut [u8], start: u32, value: u64) -> Edited
+    ensures { λ r. ⌜ Sets packet (storing (now (store .entry)) start (uint 8 value) (answered (edited edit))) start (uint 8 value) (now (store .entry)) r (now (store .exit)) ⌝ }
+{
+    if MAX_STORE < store.len() {
+        return refused(packet, Refusal::TooLong);
+    }
+    let outcome = edit.outcome;
+    let Outcome::Done = outcome else {
+        return Edited { outcome, packet };
+    };
+    let at = start as usize;
+    if store.len() < at + uint_length(value) {
+        return refused(packet, Refusal::NoRoom);
+    }
+    put_uint(store, at, value);
+    edit
+}

@@ -1,0 +1,3 @@
+pub mod Unflat
+pub mod Inverse
+pub mod Longer

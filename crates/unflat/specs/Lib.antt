@@ -1,0 +1,2 @@
+pub mod Unflat
+pub mod Made

@@ -1,0 +1,77 @@
+-- The packet of a flat form: what makes numbers one, and what packet they are.
+use Prim.Native.Nat.{ℕ, zero, suc, _+_, _-_, _*_}
+use mathlib.Core.Bool.{Bool, false}
+use mathlib.Core.List.{List, [], _∷_, _++_}
+use lib.ListN.{length, getD, replicate}
+use lib.Dec.{ltb}
+use Rattle.ground.specs.Choice.{pick, either}
+use Rattle.refusal.specs.Answer.{Answer, given, refused, outcome, Beside}
+use Rattle.class.specs.Class.{classOf}
+use Rattle.header.specs.Header.{typeOf}
+use Rattle.header.specs.declared.Header.{Header}
+use Rattle.packet.specs.Limits.{maxOptions}
+use Rattle.packet.specs.Packet.{none}
+use Rattle.packet.specs.declared.Packet.{Packet}
+use Rattle.packet.specs.declared.OptionRecord.{OptionRecord}
+use Rattle.packet.specs.declared.Range.{Range}
+use Rattle.unflat.specs.declared.Taken.{Taken}
+
+-- Version over 255, type over 3, code byte over 255, id over 65535, or over 128 records.
+unfoldable pub badHead : List ℕ → Bool
+badHead l =
+    either (ltb 255 (getD l 0 0))
+    (either (ltb 3 (getD l 1 0))
+    (either (ltb 255 (getD l 2 0)) (either (ltb 65535 (getD l 3 0)) (ltb maxOptions (getD l 8 0)))))
+
+-- One of the first records has a number over 65535.
+abbrev pub badNumbers : List ℕ → ℕ → Bool
+badNumbers l zero = false
+badNumbers l (suc n) = either (badNumbers l n) (ltb 65535 (getD l (9 + 3 * n) 0))
+
+-- Numbers that are no packet's flat form: fewer than the 9 of the head, or than 9 + 3·count, or one that its field does not hold.
+unfoldable pub badFlat : List ℕ → Bool
+badFlat l =
+    either (ltb (length l) 9)
+    (either (badHead l) (either (ltb (length l) (9 + 3 * getD l 8 0)) (badNumbers l (getD l 8 0))))
+
+-- The header of a flat form.
+unfoldable pub headerIn : List ℕ → Header
+headerIn l =
+    record {
+      version = getD l 0 0;
+      «message_type» = typeOf (getD l 1 0);
+      code = classOf (getD l 2 0);
+      «message_id» = getD l 3 0;
+    }
+
+-- The range whose start stands at a place.
+abbrev pub rangeAt : List ℕ → ℕ → Range
+rangeAt l at = record { start = getD l at 0; len = getD l (at + 1) 0 }
+
+-- The record whose number stands at a place.
+abbrev pub recordAt : List ℕ → ℕ → OptionRecord
+recordAt l at = record { number = getD l at 0; spare = 0; start = getD l (at + 1) 0; len = getD l (at + 2) 0 }
+
+-- The first records, in their order.
+abbrev pub recordsIn : List ℕ → ℕ → List OptionRecord
+recordsIn l zero = []
+recordsIn l (suc n) = recordsIn l n ++ (recordAt l (9 + 3 * n) ∷ [])
+
+-- The packet of a flat form: the empty record stands past the count.
+unfoldable pub packetIn : List ℕ → Packet
+packetIn l =
+    record {
+      header = headerIn l;
+      token = rangeAt l 4;
+      count = getD l 8 0;
+      options = recordsIn l (getD l 8 0) ++ replicate (maxOptions - getD l 8 0) none;
+      payload = rangeAt l 6;
+    }
+
+-- The packet of numbers; those that are no flat form give BadRecord (11).
+unfoldable pub unflat : List ℕ → Answer Packet
+unflat l = pick (badFlat l) (refused 11) (given (packetIn l))
+
+-- The answer of taking a packet out of numbers: how it ended, and the packet beside it.
+abbrev pub taken : Taken → Beside Packet
+taken t = record { answer = outcome (t .outcome); value = t .packet }

@@ -1,0 +1,151 @@
+// A packet taken out of its flat form, which may stand at the start of a longer slice.
+use class::MessageClass;
+use header::Header;
+use header::MessageType;
+use packet::OptionRecord;
+use packet::Packet;
+use packet::Range;
+use packet::limits::MAX_OPTIONS;
+use refusal::Outcome;
+use refusal::Refusal;
+ghost use mathlib.Core.Path.{_≡_};
+ghost use mathlib.Core.Bool.{Bool};
+ghost use Prim.Native.Nat.{_+_, _*_, _≤_};
+ghost use lib.ListN.{length, getD};
+ghost use Rattle.refusal.specs.Answer.{beside};
+ghost use Rattle.packet.specs.Packet.{newPacket};
+ghost use Rattle.unflat.specs.Unflat.{badHead, badNumbers, badFlat, headerIn, rangeAt, recordAt, packetIn, unflat, taken};
+
+// What taking a packet out of numbers answers. Beside a refusal stands the new packet.
+pub struct Taken {
+    pub outcome: Outcome,
+    pub packet: Packet,
+}
+
+// The packet of a flat form; numbers that are none give BadRecord (11).
+pub fn packet_in(numbers: &[u32]) -> Taken
+    ensures { λ r. ⌜ taken r ≡ beside newPacket (unflat (now (numbers .entry))) ⌝ }
+{
+    if bad_flat(numbers) {
+        return Taken {
+            outcome: Outcome::Refused(Refusal::BadRecord),
+            packet: Packet::new(),
+        };
+    }
+    Taken {
+        outcome: Outcome::Done,
+        packet: good_packet(numbers),
+    }
+}
+
+// Whether numbers are no packet's flat form.
+fn bad_flat(numbers: &[u32]) -> bool
+    ensures { λ r. ⌜ r ≡ badFlat (now (numbers .entry)) ⌝ }
+{
+    if numbers.len() < 9 {
+        return true;
+    }
+    if bad_head(numbers) {
+        return true;
+    }
+    let count = numbers[8] as usize;
+    if numbers.len() < 9 + 3 * count {
+        return true;
+    }
+    bad_numbers(numbers, count)
+}
+
+// Whether one of the first numbers is more than its field holds.
+fn bad_head(numbers: &[u32]) -> bool
+    requires { ⌜ 9 ≤ length (now numbers) ⌝ }
+    ensures { λ r. ⌜ r ≡ badHead (now (numbers .entry)) ⌝ }
+{
+    if 255 < numbers[0] {
+        return true;
+    }
+    if 3 < numbers[1] {
+        return true;
+    }
+    if 255 < numbers[2] {
+        return true;
+    }
+    if 65535 < numbers[3] {
+        return true;
+    }
+    (MAX_OPTIONS as u32) < numbers[8]
+}
+
+// Whether one of so many records has a number over 65535.
+fn bad_numbers(numbers: &[u32], count: usize) -> bool
+    requires { ⌜ 9 + 3 * count ≤ length (now numbers) ⌝ }
+    ensures { λ r. ⌜ r ≡ badNumbers (now (numbers .entry)) count ⌝ }
+{
+    let mut i = 0;
+    while i < count {
+        if 65535 < numbers[9 + 3 * i] {
+            return true;
+        }
+        i = i + 1;
+    }
+    false
+}
+
+// The packet of a flat form. Its records are put where they stay: an array of their own would be copied into it.
+fn good_packet(numbers: &[u32]) -> Packet
+    requires { ⌜ badFlat (now numbers) ≡ Bool.false ⌝ }
+    ensures { λ r. ⌜ r ≡ packetIn (now (numbers .entry)) ⌝ }
+{
+    let header = header_in(numbers);
+    let token = range_in(numbers, 4);
+    let payload = range_in(numbers, 6);
+    let count = numbers[8] as usize;
+    let mut packet = Packet::new();
+    packet.header = header;
+    packet.token = token;
+    packet.count = count;
+    packet.payload = payload;
+    let mut i = 0;
+    while i < count {
+        let record = record_in(numbers, 9 + 3 * i);
+        packet.options[i] = record;
+        i = i + 1;
+    }
+    packet
+}
+
+// The header of a flat form.
+fn header_in(numbers: &[u32]) -> Header
+    requires { ⌜ (9 ≤ length (now numbers)) × (badHead (now numbers) ≡ Bool.false) ⌝ }
+    ensures { λ r. ⌜ r ≡ headerIn (now (numbers .entry)) ⌝ }
+{
+    Header {
+        version: numbers[0] as u8,
+        message_type: MessageType::from_number(numbers[1] as u8),
+        code: MessageClass::from_byte(numbers[2] as u8),
+        message_id: numbers[3] as u16,
+    }
+}
+
+// The range whose start stands at a place.
+fn range_in(numbers: &[u32], at: usize) -> Range
+    requires { ⌜ at + 2 ≤ length (now numbers) ⌝ }
+    ensures { λ r. ⌜ r ≡ rangeAt (now (numbers .entry)) at ⌝ }
+{
+    Range {
+        start: numbers[at],
+        len: numbers[at + 1],
+    }
+}
+
+// The record whose number stands at a place.
+fn record_in(numbers: &[u32], at: usize) -> OptionRecord
+    requires { ⌜ (at + 3 ≤ length (now numbers)) × (getD (now numbers) at 0 ≤ 65535) ⌝ }
+    ensures { λ r. ⌜ r ≡ recordAt (now (numbers .entry)) at ⌝ }
+{
+    OptionRecord {
+        number: numbers[at] as u16,
+        spare: 0,
+        start: numbers[at + 1],
+        len: numbers[at + 2],
+    }
+}

@@ -1,0 +1,40 @@
+-- `to_bytes_in`: what was measured, and then the message is put.
+use mathlib.Core.Path.{refl, sym, ap, _∙_}
+use Rattle.refusal.specs.Answer.{written}
+use Rattle.writing.proofs.Answers.{refuses, roomy, writes}
+use borrow.Author.Needs.{needs}
+use Rattle.writing.proofs.to_bytes_in.Statement.{statement}
+use Rattle.writing.proofs.to_bytes_in.Tie as tie
+
+measured-requires : tie.Need-measured-requires
+measured-requires c κs = search needs
+
+enum-known-e : tie.Need-enum-known-e
+enum-known-e c = search needs
+
+enum-told : tie.Need-enum-told
+enum-told c = search needs
+
+put-message-requires : tie.Need-put-message-requires
+put-message-requires c κs = let a = c .before .before .before .before .before .before .args in roomy (a .strict) (a .limit) (a .packet) (a .store .now) (a .out .now) _ (sym (c .before .before .before .measured .ensures) ∙ ap written (c .before .enum-told .given .1))
+
+returns : tie.Need-returns
+returns c = refuses _ _ _ _ _ _ _ refl (sym (c .before .before .before .measured .ensures) ∙ ap written (c .before .e .given .1))
+
+same-length : tie.Need-same-length
+same-length c = search needs
+
+returns-2 : tie.Need-returns-2
+returns-2 c = writes _ _ _ _ _ _ (sym (c .before .before .before .before .before .before .measured .ensures) ∙ ap written (c .before .before .before .before .enum-told .given .1)) _ _ (c .before .before .put-message .ensures)
+
+pub to-bytes-in-spec : {M : Type 1} → statement M
+to-bytes-in-spec =
+    tie.close
+    (tie.spec
+    measured-requires
+    enum-known-e
+    enum-told
+    put-message-requires
+    returns
+    same-length
+    returns-2)

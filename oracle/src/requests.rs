@@ -1,0 +1,106 @@
+//! Requests to ask. The plain ones stay where coap-lite's answer is the one that the Rattle program has to give.
+
+mod listed;
+mod random;
+mod scripts;
+mod short;
+mod varied;
+
+pub use listed::documented;
+use random::Random;
+use std::io::{self, Write};
+use varied::Varied;
+
+/// Lines that are written up to a number of them.
+struct Lines<'a, W> {
+    out: &'a mut W,
+    left: usize,
+    fault: io::Result<()>,
+}
+
+impl<W: Write> Lines<'_, W> {
+    fn go_on(&self) -> bool {
+        self.left > 0 && self.fault.is_ok()
+    }
+
+    fn put(&mut self, line: &str) {
+        if self.go_on() {
+            self.left -= 1;
+            self.fault = writeln!(self.out, "{line}");
+        }
+    }
+
+    fn put_strict(&mut self, line: &str) {
+        if let Some(line) = strict_form(line) {
+            self.put(&line);
+        }
+    }
+
+    /// All that a list has; or, where that would be more than three quarters of what is left, only every third, fifth ..
+    /// of it: an odd step, since kinds take turns.
+    fn put_thinned(&mut self, list: impl Fn(&mut dyn FnMut(String))) {
+        let mut count = 0;
+        list(&mut |_| count += 1);
+        let every = (count / (self.left * 3 / 4).max(1) + 1) | 1;
+        let mut at = 0;
+        list(&mut |line| {
+            if at % every == 0 {
+                self.put(&line);
+            }
+            at += 1;
+        });
+    }
+}
+
+/// The fixed requests, then the short ones, then random ones until there are `size`.
+pub fn plain(seed: u64, size: usize, out: &mut impl Write) -> io::Result<()> {
+    let mut lines = Lines { out, left: size, fault: Ok(()) };
+    listed::plain(&mut |line| lines.put(&line));
+    lines.put_thinned(short::all);
+    let mut varied = Varied::new(Random::new(seed));
+    while lines.go_on() {
+        lines.put(&varied.plain());
+    }
+    lines.fault
+}
+
+/// The strict forms of plain requests, and requests that have no plain form.
+pub fn strict(seed: u64, size: usize, out: &mut impl Write) -> io::Result<()> {
+    let mut lines = Lines { out, left: size, fault: Ok(()) };
+    listed::plain(&mut |line| lines.put_strict(&line));
+    listed::strict(&mut |line| lines.put(&line));
+    lines.put_thinned(|put| short::strict(&mut |line| strict_form(&line).into_iter().for_each(&mut *put)));
+    let mut varied = Varied::new(Random::new(seed));
+    while lines.go_on() {
+        lines.put_strict(&varied.strict());
+        lines.put_strict(&varied.plain());
+    }
+    lines.fault
+}
+
+/// Requests where coap-lite can't be asked, or where its answer need not be ours.
+pub fn outside(out: &mut impl Write) -> io::Result<()> {
+    let mut lines = Lines { out, left: usize::MAX, fault: Ok(()) };
+    listed::outside(&mut |line| lines.put(&line));
+    lines.fault
+}
+
+/// The kinds of request that have a strict form, and those that have no plain one.
+const BOTH: [&str; 6] = ["read", "write", "block-new", "block-read", "block-write", "block-size"];
+const STRICT: [&str; 2] = ["register", "properties"];
+
+/// The strict form of a request; one that has no plain form is its own.
+fn strict_form(line: &str) -> Option<String> {
+    let (name, rest) = line.split_once(' ')?;
+    if BOTH.contains(&name) {
+        return Some(format!("{name}-strict {rest}"));
+    }
+    STRICT.contains(&name).then(|| line.into())
+}
+
+/// The place of a strict request's kind among the kinds.
+fn strict_kind(line: &str) -> Option<usize> {
+    let name = line.split(' ').next()?;
+    let name = name.strip_suffix("-strict").unwrap_or(name);
+    BOTH.iter().chain(&STRICT).position(|&kind| kind == name)
+}

@@ -1,0 +1,66 @@
+//! Requests that are always asked: the samples, the order of refusals, and each boundary once.
+
+use super::{short, strict_kind};
+
+const PLAIN: &str = include_str!("../../cases/plain.txt");
+const OUTSIDE: &str = include_str!("../../cases/outside.txt");
+const DOCUMENTED: &str = include_str!("../../cases/documented.txt");
+
+pub fn plain(put: &mut dyn FnMut(String)) {
+    listed(PLAIN, put);
+    short::classes(put);
+}
+
+/// The documented requests that are marked with `+`; those of one section in the order of their kinds.
+pub fn strict(put: &mut dyn FnMut(String)) {
+    for section in DOCUMENTED.split("\n\n") {
+        let mut marked = Vec::new();
+        listed(section, &mut |line| {
+            if let Some(row) = line.strip_prefix("+ ") {
+                marked.push(row.split_once(" = ").map_or(row, |(request, _)| request).to_string());
+            }
+        });
+        marked.sort_by_key(|request| strict_kind(request));
+        marked.into_iter().for_each(&mut *put);
+    }
+}
+
+pub fn outside(put: &mut dyn FnMut(String)) {
+    listed(OUTSIDE, put);
+}
+
+/// Requests with the answers that the documents give.
+pub fn documented() -> Vec<(String, String)> {
+    let mut pairs = Vec::new();
+    listed(DOCUMENTED, &mut |line| {
+        let row = line.strip_prefix("+ ").unwrap_or(&line);
+        if let Some((request, answer)) = row.split_once(" = ") {
+            pairs.push((request.to_string(), answer.to_string()));
+        }
+    });
+    pairs
+}
+
+/// The lines of a list, comments and empty lines apart.
+fn listed(list: &str, put: &mut dyn FnMut(String)) {
+    for line in list.lines() {
+        if !line.starts_with('#') && !line.is_empty() {
+            put(spelled(line));
+        }
+    }
+}
+
+/// A line in which `{61*9}` stands for nine times `61`, and `{#:-,*3}` for `1:-,2:-,3:-,`.
+fn spelled(line: &str) -> String {
+    let mut spelled = String::new();
+    for (at, part) in line.split(['{', '}']).enumerate() {
+        match part.rsplit_once('*') {
+            Some((text, times)) if at % 2 == 1 => {
+                let times: usize = times.parse().expect("a number of times");
+                (1..=times).for_each(|time| spelled.push_str(&text.replace('#', &time.to_string())));
+            }
+            _ => spelled.push_str(part),
+        }
+    }
+    spelled
+}

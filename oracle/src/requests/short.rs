@@ -1,0 +1,159 @@
+//! Every short input of every kind.
+
+use crate::words::{class_word, hex, named_classes};
+use coap_lite::MessageClass;
+
+pub fn all(put: &mut dyn FnMut(String)) {
+    datagrams(put);
+    uints(put);
+    texts(put);
+    codes(put);
+    blocks(put);
+    for number in 0..=65535 {
+        put(format!("is-option {number}"));
+        put(format!("is-format {number}"));
+    }
+}
+
+/// What is asked in its strict form, and what has no plain form.
+pub fn strict(put: &mut dyn FnMut(String)) {
+    datagrams(put);
+    blocks(put);
+    for exponent in 8..=255 {
+        put(format!("block-size {exponent}"));
+    }
+    for number in 0..=65535 {
+        put(format!("properties {number}"));
+    }
+}
+
+/// All byte strings of at most two bytes.
+fn two_bytes(mut put: impl FnMut(String)) {
+    put("-".into());
+    for first in 0..=255 {
+        put(hex(&[first]));
+        for second in 0..=255 {
+            put(hex(&[first, second]));
+        }
+    }
+}
+
+fn datagrams(put: &mut dyn FnMut(String)) {
+    two_bytes(|tail| put(format!("read 40010001{}", tail.replace('-', ""))));
+    two_bytes(|tail| put(format!("read 40010001d10061{}", tail.replace('-', ""))));
+    for first in 0..=255 {
+        for second in 0..=255 {
+            let head = hex(&[first, second]);
+            put(format!("read {head}7b2db1610201b34051ff62"));
+            if second % 16 == 5 {
+                put(format!("header-read {head}7b2d"));
+            }
+        }
+    }
+    for byte in 0..=255 {
+        put(format!("read {}", hex(&[byte])));
+        put(format!("read {}", hex(&[0x40, byte, 0x00])));
+    }
+}
+
+fn uints(put: &mut dyn FnMut(String)) {
+    two_bytes(|bytes| put(format!("uint-read 2 {bytes}")));
+    for width in [1, 4, 8] {
+        for byte in 0..=255 {
+            put(format!("uint-read {width} {}", hex(&[byte])));
+            put(format!("uint-read {width} {}", hex(&[byte, 255 - byte])));
+            put(format!("uint-write {width} 8 {byte}"));
+        }
+    }
+    for number in 0..=65535 {
+        put(format!("uint-write 2 2 {number}"));
+    }
+}
+
+/// All of one and two bytes; of three and four, every second byte after the lead bytes that allow some, with the ends
+/// of the continuation range and their neighbours behind it.
+fn texts(put: &mut dyn FnMut(String)) {
+    two_bytes(|bytes| put(format!("text-read {bytes}")));
+    const LATER: [u8; 4] = [0x7f, 0x80, 0xbf, 0xc0];
+    for lead in 0xdf..=0xf8 {
+        for second in 0..=255 {
+            for third in LATER {
+                put(format!("text-read {}", hex(&[lead, second, third])));
+                if lead < 0xef {
+                    continue;
+                }
+                for fourth in LATER {
+                    put(format!("text-read {}", hex(&[lead, second, third, fourth])));
+                }
+            }
+        }
+    }
+}
+
+/// The class of each byte, and what there is to know of each class.
+pub fn classes(put: &mut dyn FnMut(String)) {
+    for byte in 0..=255 {
+        put(format!("class-of {byte}"));
+    }
+    for class in class_words() {
+        put(format!("byte-of {class}"));
+        if class.starts_with("Response.") {
+            put(format!("is-error {class}"));
+        }
+    }
+}
+
+fn class_words() -> impl Iterator<Item = String> {
+    let reserved = (0..=255).map(|byte| class_word(MessageClass::Reserved(byte)));
+    named_classes().iter().map(|(word, _)| word.clone()).chain(reserved)
+}
+
+fn codes(put: &mut dyn FnMut(String)) {
+    for class in class_words() {
+        for room in 3..=5 {
+            put(format!("code-write {room} {class}"));
+        }
+    }
+    words_over(b"0123456789.+- a\xc3", 3, put);
+    words_over(b"0278.+", 5, put);
+    for class in 0..=9 {
+        for detail in 0..=99 {
+            put(format!("code-read {}", hex(format!("{class}.{detail:02}").as_bytes())));
+        }
+    }
+}
+
+/// The code texts of up to so many of these bytes. What isn't UTF-8 is no text for coap-lite, and left out.
+fn words_over(alphabet: &[u8], most: usize, put: &mut dyn FnMut(String)) {
+    let mut words = vec![Vec::new()];
+    for length in 0..=most {
+        for word in &words {
+            if std::str::from_utf8(word).is_ok() {
+                put(format!("code-read {}", hex(word)));
+            }
+        }
+        if length == most {
+            break;
+        }
+        let longer = |word: &Vec<u8>| {
+            let word = word.clone();
+            alphabet.iter().map(move |&byte| [&word[..], &[byte]].concat())
+        };
+        words = words.iter().flat_map(longer).collect();
+    }
+}
+
+fn blocks(put: &mut dyn FnMut(String)) {
+    two_bytes(|bytes| put(format!("block-read {bytes}")));
+    for size in 0..=4200 {
+        put(format!("block-new {} {} {size}", size * 16, size % 2));
+    }
+    for exponent in 0..=255 {
+        for number in [0, 1, 15, 16, 255, 256, 4095, 4096, 4097, 65535] {
+            put(format!("block-write 2 {number} {} {exponent}", (number + exponent) % 2));
+        }
+    }
+    for exponent in 0..=7 {
+        put(format!("block-size {exponent}"));
+    }
+}

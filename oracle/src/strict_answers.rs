@@ -1,0 +1,248 @@
+//! The answers that coap-lite can't give: strict messages and blocks, and the register. They are the rules written a
+//! second time, straight from the documents: "01" is the scope of work, which has the numbers of the refusals and
+//! their order, and a section is one of RFC 7252 unless another is named. Names of code bytes alone are coap-lite's.
+
+use crate::words::{hex, kind, kind_number, number, yes, Parts, Words, LONGEST_LINE, MOST_ROOM};
+use coap_lite::MessageClass;
+
+/// 01, What a packet is here: the most bytes of a datagram or a store, and the most options.
+const MOST_BYTES: usize = 70_000;
+const MOST_OPTIONS: usize = 128;
+/// 3.1: an extension of two bytes is at most 65535 and stands for 269 more.
+const LONGEST_VALUE: usize = 65_535 + 269;
+/// RFC 7959 2.2: a block's number has at most 20 bits.
+const LARGEST_BLOCK_NUMBER: u64 = 0xf_ffff;
+
+/// What is asked for, or the number of a refusal.
+type Judged<T> = Result<T, u8>;
+
+fn demand(holds: bool, refusal: u8) -> Judged<()> {
+    holds.then_some(()).ok_or(refusal)
+}
+
+pub fn answer(line: &[u8]) -> String {
+    match answer_request(line) {
+        Some(Ok(answer)) => answer,
+        Some(Err(refusal)) => format!("refused {refusal}"),
+        None => "no request".into(),
+    }
+}
+
+fn answer_request(line: &[u8]) -> Option<Judged<String>> {
+    if line.len() > LONGEST_LINE {
+        return None;
+    }
+    let mut words = Words::of(line);
+    let answer = match words.word()? {
+        b"read-strict" => read(&words.bytes()?).map(|packet| packet.shown()),
+        b"write-strict" => write(limit(words.word()?)?, words.number(MOST_ROOM)?, &words.parts()?),
+        b"block-new-strict" => block_new(words.number(u64::MAX)?, words.flag()?, words.number(u64::MAX)?),
+        b"block-read-strict" => block_read(&words.bytes()?),
+        b"block-write-strict" => {
+            let (room, number) = (words.number(MOST_ROOM)?, words.number(u32::MAX.into())?);
+            block_write(room, number, words.flag()?, words.byte()?)
+        }
+        b"block-size-strict" => block_size(words.byte()?).map(|size| format!("size {size}")),
+        b"register" => register(&words.parts()?),
+        b"properties" => Ok(properties(words.option_number()?).map(yes).join(" ")),
+        _ => return None,
+    };
+    words.end()?;
+    Some(answer)
+}
+
+/// 12 is the last refusal of every order.
+fn written(bytes: &[u8], room: u64) -> Judged<String> {
+    demand(bytes.len() as u64 <= room, 12)?;
+    Ok(format!("written {} {}", bytes.len(), hex(bytes)))
+}
+
+// ---- reading
+
+/// 3, in the order of 01, Reading: 10, 1, 7, 2, 8, the options, 9.
+fn read(datagram: &[u8]) -> Judged<Parts> {
+    demand(datagram.len() <= MOST_BYTES, 10)?;
+    demand(datagram.len() >= 4, 1)?;
+    let (version, token_length, code) = (datagram[0] >> 6, usize::from(datagram[0] & 0xf), datagram[1]);
+    demand(version == 1, 7)?;
+    demand(token_length <= 8 && 4 + token_length <= datagram.len(), 2)?;
+    // 4.1: an empty message ends after its id
+    demand(code != 0 || datagram.len() == 4 && token_length == 0, 8)?;
+    let mut rest = &datagram[4 + token_length..];
+    let options = read_options(&mut rest)?;
+    // 3: a marker without a payload behind it is a format error
+    demand(rest != [0xff], 9)?;
+    Ok(Parts {
+        version,
+        kind: kind(datagram[0] >> 4 & 3).expect("two bits"),
+        class: MessageClass::from(code),
+        id: u16::from_be_bytes([datagram[2], datagram[3]]),
+        token: datagram[4..4 + token_length].to_vec(),
+        options,
+        payload: rest.get(1..).unwrap_or(&[]).to_vec(),
+    })
+}
+
+/// 3.1, in the order of 01, Reading. What is left starts with the marker, or has no bytes.
+fn read_options(rest: &mut &[u8]) -> Judged<Vec<(u16, Vec<u8>)>> {
+    let mut options = Vec::new();
+    let mut number = 0;
+    while !rest.is_empty() && rest[0] != 0xff {
+        let first = take(rest, 1)?[0];
+        let (high, low) = (first >> 4, first & 0xf);
+        let delta = read_extended(high, rest)?;
+        demand(high != 15 && delta <= 65535, 3)?;
+        let length = read_extended(low, rest)?;
+        demand(low != 15, 4)?;
+        number += delta;
+        demand(number <= 65535, 3)?;
+        let value = take(rest, length)?;
+        demand(options.len() < MOST_OPTIONS, 6)?;
+        options.push((number as u16, value.to_vec()));
+    }
+    Ok(options)
+}
+
+/// 3.1: the number that a nibble stands for, with its extension; 15 has none.
+fn read_extended(nibble: u8, rest: &mut &[u8]) -> Judged<usize> {
+    Ok(match nibble {
+        13 => 13 + usize::from(take(rest, 1)?[0]),
+        14 => {
+            let extension = take(rest, 2)?;
+            269 + 256 * usize::from(extension[0]) + usize::from(extension[1])
+        }
+        _ => usize::from(nibble),
+    })
+}
+
+/// The next bytes of an option; 4 where they run past the end.
+fn take<'a>(rest: &mut &'a [u8], count: usize) -> Judged<&'a [u8]> {
+    demand(count <= rest.len(), 4)?;
+    let (taken, left) = rest.split_at(count);
+    *rest = left;
+    Ok(taken)
+}
+
+// ---- writing
+
+/// 01, Writing: 1,280 by default, or a given one, or none, which is here more than there are bytes to write.
+fn limit(word: &[u8]) -> Option<u64> {
+    match word {
+        b"default" => Some(1280),
+        b"none" => Some(u64::MAX),
+        given => number(given, u64::MAX),
+    }
+}
+
+/// 3, in the order of 01, Writing: 10, 11, 7, 2, 8, 5, 12. 18 has no place: a header is always four bytes.
+fn write(limit: u64, room: u64, packet: &Parts) -> Judged<String> {
+    judge_records(packet)?;
+    demand(packet.version == 1, 7)?;
+    demand(packet.token.len() <= 8, 2)?;
+    // 4.1: an empty message carries nothing
+    let code = u8::from(packet.class);
+    demand(code != 0 || packet.token.is_empty() && packet.options.is_empty() && packet.payload.is_empty(), 8)?;
+    let mut bytes = vec![1 << 6 | kind_number(packet.kind) << 4 | packet.token.len() as u8, code];
+    bytes.extend(packet.id.to_be_bytes());
+    bytes.extend(&packet.token);
+    let mut before = 0;
+    for (number, value) in &packet.options {
+        // 3.1: a byte of two nibbles, the extension of each, the value
+        let (delta, delta_extension) = extended(usize::from(number - before));
+        let (length, length_extension) = extended(value.len());
+        bytes.push(delta << 4 | length);
+        bytes.extend([&delta_extension[..], &length_extension, value].concat());
+        before = *number;
+    }
+    if !packet.payload.is_empty() {
+        bytes.push(0xff);
+        bytes.extend(&packet.payload);
+    }
+    demand(bytes.len() as u64 <= limit, 5)?;
+    written(&bytes, room)
+}
+
+/// 01, Writing: 10, then the causes of 11. A request's ranges are inside its store.
+fn judge_records(packet: &Parts) -> Judged<()> {
+    demand(packet.store() <= MOST_BYTES, 10)?;
+    demand(packet.version <= 3 && packet.token.len() <= 15 && packet.options.len() <= MOST_OPTIONS, 11)?;
+    demand(packet.options.iter().all(|(_, value)| value.len() <= LONGEST_VALUE), 11)?;
+    demand(packet.options.windows(2).all(|pair| pair[0].0 <= pair[1].0), 11)
+}
+
+/// 3.1: the nibble of a number, and its extension.
+fn extended(number: usize) -> (u8, Vec<u8>) {
+    match number {
+        0..=12 => (number as u8, Vec::new()),
+        13..=268 => (13, vec![(number - 13) as u8]),
+        _ => (14, ((number - 269) as u16).to_be_bytes().to_vec()),
+    }
+}
+
+// ---- blocks (RFC 7959 2.2: NUM, M and SZX)
+
+/// RFC 7959 2.2: the size is 2 to the power of SZX + 4, and SZX 7 is reserved.
+fn block_size(exponent: u8) -> Judged<u64> {
+    demand(exponent <= 6, 14)?;
+    Ok(1 << (exponent + 4))
+}
+
+/// 01, Blocks: 14, then 17.
+fn block_new(number: u64, more: bool, size: u64) -> Judged<String> {
+    let exponent = (0..=6).find(|&exponent| block_size(exponent) == Ok(size)).ok_or(14)?;
+    demand(number <= LARGEST_BLOCK_NUMBER, 17)?;
+    Ok(format!("block {number} {} {exponent}", u8::from(more)))
+}
+
+/// 01, Blocks: 13, then 14. The value is a uint (3.2), whose low four bits are M and SZX.
+fn block_read(value: &[u8]) -> Judged<String> {
+    demand(value.len() <= 3, 13)?;
+    let uint = value.iter().fold(0, |uint, &byte| uint << 8 | u64::from(byte));
+    let exponent = (uint & 7) as u8;
+    block_size(exponent)?;
+    Ok(format!("block {} {} {exponent}", uint >> 4, uint >> 3 & 1))
+}
+
+/// 01, Blocks: 14, 17, then 12. 3.2: a uint has no leading zero bytes.
+fn block_write(room: u64, number: u64, more: bool, exponent: u8) -> Judged<String> {
+    block_size(exponent)?;
+    demand(number <= LARGEST_BLOCK_NUMBER, 17)?;
+    let uint = number << 4 | u64::from(more) << 3 | u64::from(exponent);
+    let bytes: Vec<u8> = uint.to_be_bytes().into_iter().skip_while(|&byte| byte == 0).collect();
+    written(&bytes, room)
+}
+
+// ---- the register
+
+/// 01, Register: 10, then 11, then 16 with the index of the first record that gives it.
+fn register(packet: &Parts) -> Judged<String> {
+    judge_records(packet)?;
+    let bad = (0..packet.options.len()).find(|&index| is_bad(&packet.options, index));
+    Ok(bad.map_or("passes".into(), |index| format!("refused 16 {index}")))
+}
+
+/// 01, Register: unlisted and critical; or listed, and of a wrong length or a second one where one is the most. The
+/// lists are those of 5.10, of RFC 7641 2 for Observe and of RFC 7959 2.1 for Block2 and Block1.
+fn is_bad(options: &[(u16, Vec<u8>)], index: usize) -> bool {
+    let (number, value) = &options[index];
+    let lengths = match number {
+        1 => 0..=8,                  // If-Match
+        4 => 1..=8,                  // ETag
+        3 | 39 => 1..=255,           // Uri-Host, Proxy-Scheme
+        5 => 0..=0,                  // If-None-Match
+        6 | 23 | 27 => 0..=3,        // Observe, Block2, Block1
+        7 | 12 | 17 => 0..=2,        // Uri-Port, Content-Format, Accept
+        8 | 11 | 15 | 20 => 0..=255, // Location-Path, Uri-Path, Uri-Query, Location-Query
+        14 | 60 => 0..=4,            // Max-Age, Size1
+        35 => 1..=1034,              // Proxy-Uri
+        _ => return number % 2 == 1,
+    };
+    let repeatable = matches!(number, 1 | 4 | 8 | 11 | 15 | 20);
+    let again = options[..index].iter().any(|(earlier, _)| earlier == number);
+    !lengths.contains(&value.len()) || again && !repeatable
+}
+
+/// 5.4.6: critical, unsafe, no cache key.
+fn properties(number: u16) -> [bool; 3] {
+    [number & 1 != 0, number & 2 != 0, number & 0x1e == 0x1c]
+}

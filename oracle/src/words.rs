@@ -1,0 +1,257 @@
+//! The words of requests and answers (numbers, bytes, classes, options and whole packets) and their limits.
+
+use coap_lite::{CoapOption, MessageClass, MessageType, Packet, RequestType, ResponseType};
+use std::fmt::Write;
+use std::sync::OnceLock;
+
+/// A longer line is no request.
+pub const LONGEST_LINE: usize = 200_000;
+/// The longest output that a request can lend.
+pub const MOST_ROOM: u64 = 71_000;
+/// How many bytes the store of an edit script holds.
+pub const STORE: usize = 70_000;
+
+/// What is left of a line. Words stand one space apart, so a second space makes an empty word, which is no word of
+/// any request.
+pub struct Words<'a>(Option<&'a [u8]>);
+
+impl<'a> Words<'a> {
+    pub fn of(line: &'a [u8]) -> Self {
+        Words(Some(line))
+    }
+
+    pub fn word(&mut self) -> Option<&'a [u8]> {
+        let (word, rest) = split(self.0?, b' ');
+        self.0 = rest;
+        Some(word)
+    }
+
+    /// Nothing, if words are left.
+    pub fn end(&self) -> Option<()> {
+        self.0.is_none().then_some(())
+    }
+
+    pub fn number(&mut self, most: u64) -> Option<u64> {
+        number(self.word()?, most)
+    }
+
+    pub fn byte(&mut self) -> Option<u8> {
+        Some(self.number(255)? as u8)
+    }
+
+    pub fn flag(&mut self) -> Option<bool> {
+        Some(self.number(1)? == 1)
+    }
+
+    pub fn bytes(&mut self) -> Option<Vec<u8>> {
+        bytes(self.word()?)
+    }
+
+    pub fn class(&mut self) -> Option<MessageClass> {
+        class(self.word()?)
+    }
+
+    pub fn option_number(&mut self) -> Option<u16> {
+        Some(self.number(65535)? as u16)
+    }
+
+    pub fn kind(&mut self) -> Option<MessageType> {
+        kind(self.byte()?)
+    }
+
+    pub fn parts(&mut self) -> Option<Parts> {
+        Some(Parts {
+            version: self.byte()?,
+            kind: self.kind()?,
+            class: self.class()?,
+            id: self.number(65535)? as u16,
+            token: self.bytes()?,
+            options: options(self.word()?)?,
+            payload: self.bytes()?,
+        })
+    }
+}
+
+/// A packet as a request names its parts.
+#[derive(Clone)]
+pub struct Parts {
+    pub version: u8,
+    pub kind: MessageType,
+    pub class: MessageClass,
+    pub id: u16,
+    pub token: Vec<u8>,
+    pub options: Vec<(u16, Vec<u8>)>,
+    pub payload: Vec<u8>,
+}
+
+impl Parts {
+    pub fn of(packet: &Packet) -> Self {
+        let values = |(number, list): (&u16, &std::collections::LinkedList<Vec<u8>>)| {
+            let number = *number;
+            list.clone().into_iter().map(move |value| (number, value)).collect::<Vec<_>>()
+        };
+        Parts {
+            version: packet.header.get_version(),
+            kind: packet.header.get_type(),
+            class: packet.header.code,
+            id: packet.header.message_id,
+            token: packet.get_token().to_vec(),
+            options: packet.options().flat_map(values).collect(),
+            payload: packet.payload.clone(),
+        }
+    }
+
+    /// coap-lite's packet of these parts. It keeps the low two bits of the version.
+    pub fn packet(&self) -> Packet {
+        let mut packet = Packet::new();
+        packet.header.set_version(self.version);
+        packet.header.set_type(self.kind);
+        packet.header.code = self.class;
+        packet.header.message_id = self.id;
+        packet.set_token(self.token.clone());
+        for (number, value) in &self.options {
+            packet.add_option(CoapOption::from(*number), value.clone());
+        }
+        packet.payload = self.payload.clone();
+        packet
+    }
+
+    /// What coap-lite writes of these parts when no limit is given.
+    pub fn datagram(&self) -> Vec<u8> {
+        self.packet().to_bytes_unlimited().expect("there is no limit to exceed")
+    }
+
+    /// How many bytes the packet's store has: token, values and payload.
+    pub fn store(&self) -> usize {
+        let values: usize = self.options.iter().map(|(_, value)| value.len()).sum();
+        self.token.len() + values + self.payload.len()
+    }
+
+    /// The words of a request.
+    pub fn asked(&self) -> String {
+        let (version, kind, class) = (self.version, kind_number(self.kind), class_word(self.class));
+        format!("{version} {kind} {class} {} {}", self.id, self.contents())
+    }
+
+    /// The words of an answer, which has the code byte before the class.
+    pub fn shown(&self) -> String {
+        let (version, kind, class) = (self.version, kind_number(self.kind), class_word(self.class));
+        let code = u8::from(self.class);
+        format!("packet {version} {kind} {code} {class} {} {}", self.id, self.contents())
+    }
+
+    fn contents(&self) -> String {
+        let options: Vec<String> =
+            self.options.iter().map(|(number, value)| format!("{number}:{}", hex(value))).collect();
+        format!("{} {} {}", hex(&self.token), or_none(&options.join(",")), hex(&self.payload))
+    }
+}
+
+/// What stands before the first such byte, and what after it if there is one.
+fn split(text: &[u8], at: u8) -> (&[u8], Option<&[u8]>) {
+    match text.iter().position(|&byte| byte == at) {
+        Some(end) => (&text[..end], Some(&text[end + 1..])),
+        None => (text, None),
+    }
+}
+
+pub fn number(word: &[u8], most: u64) -> Option<u64> {
+    if word.is_empty() || word.len() > 20 || !word.iter().all(u8::is_ascii_digit) {
+        return None;
+    }
+    let number: u64 = std::str::from_utf8(word).ok()?.parse().ok()?;
+    (number <= most).then_some(number)
+}
+
+pub fn bytes(word: &[u8]) -> Option<Vec<u8>> {
+    if word == b"-" {
+        return Some(Vec::new());
+    }
+    if word.is_empty() || word.len() % 2 == 1 {
+        return None;
+    }
+    word.chunks(2).map(|pair| Some(digit(pair[0])? * 16 + digit(pair[1])?)).collect()
+}
+
+fn digit(byte: u8) -> Option<u8> {
+    match byte {
+        b'0'..=b'9' => Some(byte - b'0'),
+        b'a'..=b'f' => Some(byte - b'a' + 10),
+        _ => None,
+    }
+}
+
+pub fn hex(bytes: &[u8]) -> String {
+    const DIGITS: &[u8; 16] = b"0123456789abcdef";
+    let digits = bytes.iter().flat_map(|byte| [byte / 16, byte % 16]);
+    or_none(&digits.map(|digit| char::from(DIGITS[usize::from(digit)])).collect::<String>())
+}
+
+pub fn or_none(word: &str) -> String {
+    if word.is_empty() {
+        "-".into()
+    } else {
+        word.into()
+    }
+}
+
+pub fn yes(is: bool) -> String {
+    if is { "yes" } else { "no" }.into()
+}
+
+/// `NUMBER:HEX` with commas between, or `-`.
+fn options(word: &[u8]) -> Option<Vec<(u16, Vec<u8>)>> {
+    if word == b"-" {
+        return Some(Vec::new());
+    }
+    let option = |text: &[u8]| {
+        let (left, right) = split(text, b':');
+        Some((number(left, 65535)? as u16, bytes(right?)?))
+    };
+    word.split(|&byte| byte == b',').map(option).collect()
+}
+
+/// A class as the enum names it, with a dot for what it holds.
+pub fn class_word(class: MessageClass) -> String {
+    let mut word = String::new();
+    write!(word, "{class:?}").expect("a string takes all");
+    word.replace('(', ".").replace(')', "")
+}
+
+/// The classes that have a name of their own, `Reserved` apart.
+pub fn named_classes() -> &'static [(String, MessageClass)] {
+    static CLASSES: OnceLock<Vec<(String, MessageClass)>> = OnceLock::new();
+    CLASSES.get_or_init(|| {
+        let unknown = [MessageClass::Request(RequestType::UnKnown), MessageClass::Response(ResponseType::UnKnown)];
+        (0..=255)
+            .map(MessageClass::from)
+            .filter(|class| !matches!(class, MessageClass::Reserved(_)))
+            .chain(unknown)
+            .map(|class| (class_word(class), class))
+            .collect()
+    })
+}
+
+fn class(word: &[u8]) -> Option<MessageClass> {
+    if let Some(byte) = word.strip_prefix(b"Reserved.") {
+        return Some(MessageClass::Reserved(number(byte, 255)? as u8));
+    }
+    let (_, class) = named_classes().iter().find(|(name, _)| name.as_bytes() == word)?;
+    Some(*class)
+}
+
+const KINDS: [MessageType; 4] =
+    [MessageType::Confirmable, MessageType::NonConfirmable, MessageType::Acknowledgement, MessageType::Reset];
+
+pub fn kind(number: u8) -> Option<MessageType> {
+    KINDS.get(usize::from(number)).copied()
+}
+
+pub fn kind_number(kind: MessageType) -> u8 {
+    match kind {
+        MessageType::Confirmable => 0,
+        MessageType::NonConfirmable => 1,
+        MessageType::Acknowledgement => 2,
+        MessageType::Reset => 3,
+    }
+}
