@@ -77,24 +77,19 @@ fn read(mut words: Words) -> Option<String> {
     words.end()?;
     Some(match Packet::from_bytes(&datagram) {
         Ok(packet) => Parts::of(&packet).shown(),
-        Err(error) => refused(reading_number(error)),
+        Err(error) => refused(refusal_number(error)),
     })
 }
 
-fn reading_number(error: MessageError) -> u8 {
+/// The encoder's `InvalidHeader` has no number of its own, since nothing leads there: were it met, it would be told as a
+/// reader's 1, which no writer answers.
+fn refusal_number(error: MessageError) -> u8 {
     match error {
         MessageError::InvalidHeader => 1,
         MessageError::InvalidTokenLength => 2,
         MessageError::InvalidOptionDelta => 3,
         MessageError::InvalidOptionLength => 4,
         MessageError::InvalidPacketLength => 5,
-    }
-}
-
-fn writing_number(error: MessageError) -> u8 {
-    match error {
-        MessageError::InvalidHeader => 18,
-        other => reading_number(other),
     }
 }
 
@@ -133,7 +128,7 @@ fn write_packet(packet: &Packet, limit: Limit, room: u64) -> String {
     };
     match answer {
         Ok(bytes) => written(&bytes, room),
-        Err(error) => refused(writing_number(error)),
+        Err(error) => refused(refusal_number(error)),
     }
 }
 
@@ -162,7 +157,7 @@ fn edit(mut words: Words) -> Option<String> {
         }
         match Packet::from_bytes(&datagram) {
             Ok(packet) => script.packet = packet,
-            Err(error) => return Some(refused(reading_number(error))),
+            Err(error) => return Some(refused(refusal_number(error))),
         }
     }
     let mut asked = Vec::new();

@@ -134,7 +134,7 @@ fn limit(word: &[u8]) -> Option<u64> {
     }
 }
 
-/// 3, in the order of 01, Writing: 10, 11, 7, 2, 8, 5, 12. 18 has no place: a header is always four bytes.
+/// 3, in the order of 01, Writing: 10, 11, 7, 2, 8, 5, 12.
 fn write(limit: u64, room: u64, packet: &Parts) -> Judged<String> {
     judge_records(packet)?;
     demand(packet.version == 1, 7)?;

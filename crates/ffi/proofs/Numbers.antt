@@ -48,8 +48,7 @@ written-below strict limit room s p =
     (λ a. on (Given Below) (badPacket (length s) p) (λ b. tt)
     (λ b. given-onward (λ _. Unit {0}) Below (strictly strict p) _ (always (strictly strict p))
     (λ _ _. on (Given Below) (over limit (counted strict p)) (λ h. tt)
-    (λ h. on-lt (Given Below) (counted strict p) 4 (λ i. tt)
-    (λ i. on-lt (Given Below) room (length (bytesWritten strict s p)) (λ j. tt) (λ j. bytes-below strict s p a b))))))
+    (λ h. on-lt (Given Below) room (length (bytesWritten strict s p)) (λ j. tt) (λ j. bytes-below strict s p a b)))))
   where
     always : {A : Type 0} (a : Answer A) → Given (λ _. Unit {0}) a
     always (given v) = tt

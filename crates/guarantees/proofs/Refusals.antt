@@ -6,13 +6,13 @@ use Rattle.refusal.specs.Number.{numberOf}
 use Rattle.refusal.specs.declared.Outcome.{Outcome}
 use Rattle.refusal.specs.declared.Outcome.the-variants.{Done, Refused as Not}
 use Rattle.refusal.proofs.Answers.{not-refused, was-refused, old-beside}
-use Rattle.refusal.proofs.Distinct.{number-listed}
+use Rattle.refusal.proofs.Distinct.{number-listed, numbers-are}
 use Rattle.packet.specs.Packet.{newPacket}
 use Rattle.reading.specs.Reading.{reading}
 use Rattle.guarantees.specs.Refusals.{Numbered, OutputKept, DoneOr, NoPacketRead, PacketKept, StoreKept, HeaderKept}
 
 pub numbered : Numbered
-numbered = number-listed
+numbered = (number-listed, numbers-are)
 
 pub output-kept : OutputKept
 output-kept (given n) at bytes old r new w s e is = not-refused (sym w ∙ ap written is)

@@ -2,12 +2,12 @@
 use Prim.Native.Nat.{ℕ}
 use mathlib.Core.Path.{_≡_}
 use mathlib.Core.Bool.{Bool}
-use mathlib.Core.List.{List}
+use mathlib.Core.List.{List, map}
 use mathlib.Core.Logic.{_⊎_}
 use lib.Dec.{T}
 use Rattle.ground.specs.Table.{listed}
 use Rattle.refusal.specs.Answer.{Answer, written, after, beside}
-use Rattle.refusal.specs.Number.{numberOf, numbers}
+use Rattle.refusal.specs.Number.{numberOf, refusals, numbers}
 use Rattle.refusal.specs.declared.Refusal.{Refusal}
 use Rattle.refusal.specs.declared.Written.{Written}
 use Rattle.refusal.specs.declared.Written.the-variants.{Refused}
@@ -24,9 +24,9 @@ use Rattle.splicing.specs.Edited.{Edits}
 use Rattle.splicing.specs.declared.Edited.{Edited}
 use Rattle.typed_options.specs.Setters.{Sets}
 
--- A refusal's number is one of those that there are.
+-- A refusal's number is one of those that there are, and each of those is a refusal's.
 abbrev pub Numbered : Type 0
-Numbered = (e : Refusal) → T (listed (numberOf e) numbers)
+Numbered = ((e : Refusal) → T (listed (numberOf e) numbers)) × (map numberOf refusals ≡ numbers)
 
 -- A refused writer leaves the output as it was, whatever its answer and its bytes are, and wherever it puts them.
 abbrev pub OutputKept : Type 0

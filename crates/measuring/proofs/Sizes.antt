@@ -18,7 +18,7 @@ pub marker-small : (len : ℕ) → markerSize len ≤ 1
 unfolding markerSize
 marker-small len = on-lt (λ (k : ℕ). k ≤ 1) 0 len (λ h. omega arith) (λ h. omega arith)
 
--- The header alone is four bytes, so 18 is never met.
+-- The header alone is four bytes, so a buffer of the counted size always holds it.
 pub four : (strict : Bool) (p : Packet) → 4 ≤ counted strict p
 four strict p = omega arith
 
@@ -48,8 +48,7 @@ module _ (strict : Bool) (limit : Limit) (room store : ℕ) (p : Packet) where
       (λ a. on (Given Q) (badPacket store p) (λ b. tt)
       (λ b. given-onward (λ _. Unit {0}) Q (strictly strict p) (λ _. limited limit (counted strict p) (sizeFitted room (writtenSize strict p))) (all (strictly strict p))
       (λ _ _. on (Given Q) (over limit (counted strict p)) (λ d. tt)
-      (λ d. on-lt (Given Q) (counted strict p) 4 (λ e. tt)
-      (λ e. on-lt (Given Q) room (writtenSize strict p) (λ f. tt) (λ f. record { short = a; good = b; size = refl; within = f }))))))
+      (λ d. on-lt (Given Q) room (writtenSize strict p) (λ e. tt) (λ e. record { short = a; good = b; size = refl; within = e })))))
     where
       all : (a : Answer (Unit {0})) → Given (λ _. Unit {0}) a
       all (given v) = tt

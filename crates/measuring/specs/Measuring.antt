@@ -58,15 +58,15 @@ strictly strict p =
     (pick (both strict (ltb 8 (p .token .len))) (refused 2)
     (pick (both strict (emptyCarries p)) (refused 8) (given tt)))
 
--- What the size refuses before writing goes on: over the limit gives 5; a buffer of the counted size that holds no header 18.
+-- What the size refuses before writing goes on: over the limit gives 5.
 unfoldable pub limited : Limit → ℕ → Answer ℕ → Answer ℕ
-limited limit size next = pick (over limit size) (refused 5) (pick (ltb size 4) (refused 18) next)
+limited limit size next = pick (over limit size) (refused 5) next
 
 -- Bytes of this size for an output with this much room: their length, or NoRoom (12).
 abbrev pub sizeFitted : ℕ → ℕ → Answer ℕ
 sizeFitted room size = pick (ltb room size) (refused 12) (given size)
 
--- A good packet for an output with this much room: strict 7, 2 and 8, then 5 and 18 by the counted size, then 12 by the bytes.
+-- A good packet for an output with this much room: strict 7, 2 and 8, then 5 by the counted size, then 12 by the bytes.
 abbrev pub sized : Bool → Limit → ℕ → Packet → Answer ℕ
 sized strict limit room p = onward (strictly strict p) (λ _. limited limit (counted strict p) (sizeFitted room (writtenSize strict p)))
 

@@ -95,10 +95,6 @@ fn sized(strict: bool, limit: Limit, packet: Packet, options: usize, room: usize
     if limit.exceeded_by(size) {
         return Written::Refused(Refusal::InvalidPacketLength);
     }
-    // The encoder's own buffer has the counted size, and the header takes four bytes of it.
-    if size < 4 {
-        return Written::Refused(Refusal::HeaderNotWritten);
-    }
     let length = rest + kept;
     if room < length {
         return Written::Refused(Refusal::NoRoom);

@@ -27,6 +27,18 @@ pub given-onward : {A B : Type 0} (P : A → Type 0) (Q : B → Type 0) (a : Ans
 given-onward P Q (given v) next h f = f v h
 given-onward P Q (refused k) next h f = tt
 
+-- What holds of the number of a refusal, if an answer is one.
+abbrev pub Refusing : {A : Type 0} → (ℕ → Type 0) → Answer A → Type 0
+Refusing P (given a) = Unit {0}
+Refusing P (refused k) = P k
+
+pub on-refused : {A : Type 0} (P : ℕ → Type 0) (a : Answer A) (k : ℕ) → Refusing P a → a ≡ refused k → P k
+on-refused P a k h e = subst (Refusing P) e h
+
+pub refusing-onward : {A B : Type 0} (P : ℕ → Type 0) (a : Answer A) (next : A → Answer B) → Refusing P a → ((v : A) → Refusing P (next v)) → Refusing P (onward a next)
+refusing-onward P (given v) next h f = f v
+refusing-onward P (refused k) next h f = h
+
 -- Where going on gives a value, there was one to go on with.
 pub onward-given : {A B : Type 0} (a : Answer A) (next : A → Answer B) (b : B) → onward a next ≡ given b → (v : A) × (a ≡ given v) × (next v ≡ given b)
 onward-given (given v) next b e = (v, refl, e)

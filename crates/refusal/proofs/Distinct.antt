@@ -1,7 +1,7 @@
 -- No two refusals have one number: a number leads back to its refusal.
 use Prim.Native.Nat.{ℕ}
 use mathlib.Core.Path.{_≡_, refl, sym, ap, _∙_}
-use mathlib.Core.List.{List, [], _∷_}
+use mathlib.Core.List.{List, [], _∷_, map}
 use lib.Dec.{T, eqb}
 use Rattle.ground.specs.Choice.{pick}
 use Rattle.ground.specs.Table.{listed}
@@ -12,7 +12,7 @@ use Rattle.refusal.specs.declared.Outcome.{Outcome}
 use Rattle.refusal.specs.declared.Outcome.the-variants.{Done, Refused as Not}
 use Rattle.refusal.specs.Number.{numberOf, refusals, numbers}
 use Rattle.refusal.specs.declared.Refusal.{Refusal}
-use Rattle.refusal.specs.declared.Refusal.the-variants.{InvalidHeader, InvalidTokenLength, InvalidOptionDelta, InvalidOptionLength, InvalidPacketLength, TooManyOptions, WrongVersion, EmptyCarries, MarkerAlone, TooLong, BadRecord, NoRoom, BadUint, BadBlockSize, BadText, BadOption, BlockNumber, HeaderNotWritten}
+use Rattle.refusal.specs.declared.Refusal.the-variants.{InvalidHeader, InvalidTokenLength, InvalidOptionDelta, InvalidOptionLength, InvalidPacketLength, TooManyOptions, WrongVersion, EmptyCarries, MarkerAlone, TooLong, BadRecord, NoRoom, BadUint, BadBlockSize, BadText, BadOption, BlockNumber}
 
 -- The first of these refusals that has a number.
 among : List Refusal → ℕ → Refusal
@@ -39,13 +39,16 @@ known BadBlockSize = (refl, tt)
 known BadText = (refl, tt)
 known BadOption = (refl, tt)
 known BlockNumber = (refl, tt)
-known HeaderNotWritten = (refl, tt)
 
 pub distinct : (a b : Refusal) → numberOf a ≡ numberOf b → a ≡ b
 distinct a b e = sym (known a .0) ∙ (ap (among refusals) e ∙ known b .0)
 
 pub number-listed : (r : Refusal) → T (listed (numberOf r) numbers)
 number-listed r = known r .1
+
+-- Each number that is listed is a refusal's.
+pub numbers-are : map numberOf refusals ≡ numbers
+numbers-are = refl
 
 -- An answer in the words of the promises is that of one value only.
 pub one-written : (a b : Written) → written a ≡ written b → a ≡ b

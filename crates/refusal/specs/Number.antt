@@ -1,8 +1,8 @@
 -- The number of each refusal: the page of refusals.
 use Prim.Native.Nat.{ℕ}
-use mathlib.Core.List.{List, [], _∷_, map}
+use mathlib.Core.List.{List, [], _∷_}
 use Rattle.refusal.specs.declared.Refusal.{Refusal}
-use Rattle.refusal.specs.declared.Refusal.the-variants.{InvalidHeader, InvalidTokenLength, InvalidOptionDelta, InvalidOptionLength, InvalidPacketLength, TooManyOptions, WrongVersion, EmptyCarries, MarkerAlone, TooLong, BadRecord, NoRoom, BadUint, BadBlockSize, BadText, BadOption, BlockNumber, HeaderNotWritten}
+use Rattle.refusal.specs.declared.Refusal.the-variants.{InvalidHeader, InvalidTokenLength, InvalidOptionDelta, InvalidOptionLength, InvalidPacketLength, TooManyOptions, WrongVersion, EmptyCarries, MarkerAlone, TooLong, BadRecord, NoRoom, BadUint, BadBlockSize, BadText, BadOption, BlockNumber}
 
 abbrev pub numberOf : Refusal → ℕ
 numberOf InvalidHeader = 1
@@ -22,13 +22,12 @@ numberOf BadBlockSize = 14
 numberOf BadText = 15
 numberOf BadOption = 16
 numberOf BlockNumber = 17
-numberOf HeaderNotWritten = 18
 
 -- Every refusal, in the order of their numbers.
 abbrev pub refusals : List Refusal
 refusals =
-    InvalidHeader ∷ InvalidTokenLength ∷ InvalidOptionDelta ∷ InvalidOptionLength ∷ InvalidPacketLength ∷ TooManyOptions ∷ WrongVersion ∷ EmptyCarries ∷ MarkerAlone ∷ TooLong ∷ BadRecord ∷ NoRoom ∷ BadUint ∷ BadBlockSize ∷ BadText ∷ BadOption ∷ BlockNumber ∷ HeaderNotWritten ∷ []
+    InvalidHeader ∷ InvalidTokenLength ∷ InvalidOptionDelta ∷ InvalidOptionLength ∷ InvalidPacketLength ∷ TooManyOptions ∷ WrongVersion ∷ EmptyCarries ∷ MarkerAlone ∷ TooLong ∷ BadRecord ∷ NoRoom ∷ BadUint ∷ BadBlockSize ∷ BadText ∷ BadOption ∷ BlockNumber ∷ []
 
--- The numbers that there are.
+-- The numbers that there are: 18 is a hole, which no refusal fills.
 abbrev pub numbers : List ℕ
-numbers = map numberOf refusals
+numbers = 1 ∷ 2 ∷ 3 ∷ 4 ∷ 5 ∷ 6 ∷ 7 ∷ 8 ∷ 9 ∷ 10 ∷ 11 ∷ 12 ∷ 13 ∷ 14 ∷ 15 ∷ 16 ∷ 17 ∷ []

@@ -22,7 +22,6 @@ pub enum Refusal {
     BadText,
     BadOption,
     BlockNumber,
-    HeaderNotWritten,
 }
 
 impl Refusal {
@@ -48,7 +47,6 @@ impl Refusal {
             Refusal::BadText => 15,
             Refusal::BadOption => 16,
             Refusal::BlockNumber => 17,
-            Refusal::HeaderNotWritten => 18,
         }
     }
 }

@@ -48,6 +48,11 @@ limits : (writing false Default 4 (zeros 1280) (carrying Empty 1276) ≡ given 4
 unfolding writing strictly limited markerSize badPacket bytesIn layout headerLayout range packet carrying zeros
 limits = (refl, refl, refl, refl, refl, refl, refl)
 
+-- A header is four bytes: a smaller limit is 5, with no output too, and a smaller output 12.
+headers : (writing true (Given 0) 4 [] (carrying Empty 0) ≡ refused 5) × (writing false (Given 3) 0 [] (carrying Empty 0) ≡ refused 5) × (writing true (Given 4) 0 [] (carrying Empty 0) ≡ refused 12) × (writing false (Given 4) 3 [] (carrying Empty 0) ≡ refused 12) × (writing true (Given 4) 4 [] (carrying Empty 0) ≡ given 4)
+unfolding writing strictly limited markerSize badPacket bytesIn layout headerLayout range packet carrying
+headers = (refl, refl, refl, refl, refl)
+
 -- Strict judges by the code byte, and counts records: an option of no bytes carries, a payload of no bytes does not.
 empties : (writing true Default 9 (zeros 9) (carrying (Reserved 0) 1) ≡ refused 8) × (writing true Default 9 (zeros 9) (carrying Empty 1) ≡ refused 8) × (writing true Default 9 (zeros 9) (carrying Empty 0) ≡ given 4) × (writing true Default 9 (zeros 9) (packet 1 Empty (range 0 0) (option 0 0 ∷ []) (range 0 0)) ≡ refused 8)
 unfolding writing strictly limited markerSize badPacket optionSize extensionSize bytesIn layout headerLayout optionLayout nibbleOf extensionOf range option packet carrying zeros

@@ -26,7 +26,7 @@ use Rattle.packet.specs.declared.OptionRecord.{OptionRecord}
 use Rattle.judging.proofs.Good.{Good, good, value-length}
 use Rattle.measuring.specs.Measuring.{strictly, limited, counted, over, emptyCarries}
 use Rattle.measuring.specs.declared.Limit.{Limit}
-use Rattle.measuring.proofs.Sizes.{four, measured-good}
+use Rattle.measuring.proofs.Sizes.{measured-good}
 use Rattle.writing.specs.Writing.{writing, bytesWritten}
 use Rattle.writing.proofs.Options.{bytes-at-most}
 use Rattle.writing.proofs.Sizes.{bytes-exactly, strict-counted}
@@ -156,8 +156,7 @@ unfolding limited
 ended limit room size bytes n =
     let P : Answer ℕ → Type 0 = λ b. b ≡ given n → (over limit size ≡ false) × (length bytes ≤ room) × (n ≡ length bytes) in
     on P (over limit size) (λ o e. not-refused (sym e))
-    (λ o. on-lt P size 4 (λ h e. not-refused (sym e))
-    (λ h. on-lt P room (length bytes) (λ r e. not-refused (sym e)) (λ r e. (o, r, cc))))
+    (λ o. on-lt P room (length bytes) (λ r e. not-refused (sym e)) (λ r e. (o, r, cc)))
 
 module _ (limit : Limit) (room : ℕ) (s : List ℕ) (p : Packet) (shaped : Shaped p) where
   -- Strict writing accepts what is writable, and answers the length of its layout.
@@ -168,7 +167,7 @@ module _ (limit : Limit) (room : ℕ) (s : List ℕ) (p : Packet) (shaped : Shap
       let n = strict-counted s p g in
       writing-measured true limit room s p
       ∙ (measured-good true limit room (length s) p (w .store) (w .records)
-      ∙ rw (passes p (wellformed-strict s p shaped g (w .wellformed)), sym (ap (over limit) n) ∙ w .within, le-ltb (counted true p) 4 (four true p), sym n, le-ltb room (length (layout (meaning s p))) (w .fits)))
+      ∙ rw (passes p (wellformed-strict s p shaped g (w .wellformed)), sym (ap (over limit) n) ∙ w .within, sym n, le-ltb room (length (layout (meaning s p))) (w .fits)))
 
   -- The output then begins with the layout of what the packet means.
   pub strict-output : Writable limit room s p → (old : List ℕ) → length (layout (meaning s p)) ≤ length old → after (writing true limit room s p) 0 (bytesWritten true s p) old ≡ layout (meaning s p) ++ drop (length (layout (meaning s p))) old

@@ -31,7 +31,7 @@ sent strict p =
 abbrev pub bytesWritten : Bool → List ℕ → Packet → List ℕ
 bytesWritten strict s p = layout (meaning s (sent strict p))
 
--- Writing into an output with this much room: 10, 11, strict 7, 2 and 8, then 5 and 18 by the counted size, then 12 by the bytes.
+-- Writing into an output with this much room: 10, 11, strict 7, 2 and 8, then 5 by the counted size, then 12 by the bytes.
 unfoldable pub writing : Bool → Limit → ℕ → List ℕ → Packet → Answer ℕ
 writing strict limit room s p =
     pick (ltb maxStore (length s)) (refused 10)

@@ -50,20 +50,16 @@ returns : tie.Need-returns
 unfolding limited
 returns c = rw (counted-is (c .before .before .before), sym (c .before .exceeded-by .ensures) ∙ c .if1 .taken)
 
+add-length : tie.Need-add-length
+add-length c = omega (arith, c .before .before .before .marker-size .ensures, marker-small (c .before .before .before .before .before .before .sent-payload .result .len))
+
 returns-2 : tie.Need-returns-2
 unfolding limited
-returns-2 c = rw (counted-is (c .before .before .before .before), sym (c .before .before .exceeded-by .ensures) ∙ c .before .if1 .left, lt-ltb _ _ (c .if2 .taken))
-
-add-length : tie.Need-add-length
-add-length c = omega (arith, c .before .before .before .before .marker-size .ensures, marker-small (c .before .before .before .before .before .before .before .sent-payload .result .len))
+returns-2 c = rw (counted-is (c .before .before .before .before), sym (c .before .before .exceeded-by .ensures) ∙ c .before .if1 .left, written-is (c .before .before .before .before), lt-ltb _ _ (c .if2 .taken))
 
 returns-3 : tie.Need-returns-3
 unfolding limited
-returns-3 c = rw (counted-is (c .before .before .before .before .before), sym (c .before .before .before .exceeded-by .ensures) ∙ c .before .before .if1 .left, le-ltb _ _ (c .before .if2 .left), written-is (c .before .before .before .before .before), lt-ltb _ _ (c .if3 .taken))
-
-returns-4 : tie.Need-returns-4
-unfolding limited
-returns-4 c = rw (counted-is (c .before .before .before .before .before), sym (c .before .before .before .exceeded-by .ensures) ∙ c .before .before .if1 .left, le-ltb _ _ (c .before .if2 .left), written-is (c .before .before .before .before .before), le-ltb _ _ (c .if3 .left))
+returns-3 c = rw (counted-is (c .before .before .before .before), sym (c .before .before .exceeded-by .ensures) ∙ c .before .if1 .left, written-is (c .before .before .before .before), le-ltb _ _ (c .if2 .left))
 
 pub sized-spec : {M : Type 1} → statement M
 sized-spec =
@@ -80,7 +76,6 @@ sized-spec =
     add-size
     exceeded-by-requires
     returns
-    returns-2
     add-length
-    returns-3
-    returns-4)
+    returns-2
+    returns-3)

@@ -1,0 +1,25 @@
+-- Which refusals a writer gives, by number: strict 10, 11, 7, 2, 8, 5 and 12, plain 10, 11, 5 and 12.
+use Prim.Native.Nat.{ℕ}
+use mathlib.Core.Path.{_≡_}
+use mathlib.Core.Bool.{Bool, true, false}
+use mathlib.Core.List.{List, [], _∷_}
+use lib.Dec.{T}
+use Rattle.ground.specs.Table.{listed}
+use Rattle.refusal.specs.Number.{numberOf}
+use Rattle.refusal.specs.declared.Refusal.{Refusal}
+use Rattle.refusal.specs.declared.Written.{Written}
+use Rattle.refusal.specs.declared.Written.the-variants.{Refused}
+use Rattle.packet.specs.declared.Packet.{Packet}
+use Rattle.measuring.specs.declared.Limit.{Limit}
+use Rattle.writing.specs.Writing.{ToBytes}
+
+-- The numbers of a mode's refusals, in the order in which they are judged: strict's, then plain's.
+abbrev pub writerNumbers : Bool → List ℕ
+writerNumbers true = 10 ∷ 11 ∷ 7 ∷ 2 ∷ 8 ∷ 5 ∷ 12 ∷ []
+writerNumbers false = 10 ∷ 11 ∷ 5 ∷ 12 ∷ []
+
+-- A refusal of any writer that meets the promise has one of its mode's numbers, for every limit, packet, store and output.
+abbrev pub WriterRefusals : Type 0
+WriterRefusals =
+    (strict : Bool) (limit : Limit) (p : Packet) (s old : List ℕ) (r : Written) (new : List ℕ) → ToBytes strict limit p s old r new
+    → (e : Refusal) → r ≡ Refused e → T (listed (numberOf e) (writerNumbers strict))
