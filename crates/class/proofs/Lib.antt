@@ -1,1 +1,3 @@
 pub mod Class
+pub mod Agreement
+pub mod Unnamed

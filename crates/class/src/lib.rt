@@ -3,6 +3,8 @@ ghost use mathlib.Core.Path.{_≡_};
 ghost use lib.Dec.{leb};
 ghost use Rattle.class.specs.Class.{byteOf, byteOfRequest, byteOfResponse, classOf};
 
+mod table;
+
 // The detailed class (request/response) of a message with the code.
 pub enum MessageClass {
     Empty,
@@ -16,49 +18,7 @@ impl MessageClass {
     pub fn from_byte(number: u8) -> MessageClass
         ensures { λ r. ⌜ r ≡ classOf number ⌝ }
     {
-        match number {
-            0x00 => MessageClass::Empty,
-
-            0x01 => MessageClass::Request(RequestType::Get),
-            0x02 => MessageClass::Request(RequestType::Post),
-            0x03 => MessageClass::Request(RequestType::Put),
-            0x04 => MessageClass::Request(RequestType::Delete),
-            0x05 => MessageClass::Request(RequestType::Fetch),
-            0x06 => MessageClass::Request(RequestType::Patch),
-            0x07 => MessageClass::Request(RequestType::IPatch),
-
-            0x41 => MessageClass::Response(ResponseType::Created),
-            0x42 => MessageClass::Response(ResponseType::Deleted),
-            0x43 => MessageClass::Response(ResponseType::Valid),
-            0x44 => MessageClass::Response(ResponseType::Changed),
-            0x45 => MessageClass::Response(ResponseType::Content),
-            0x5F => MessageClass::Response(ResponseType::Continue),
-
-            0x80 => MessageClass::Response(ResponseType::BadRequest),
-            0x81 => MessageClass::Response(ResponseType::Unauthorized),
-            0x82 => MessageClass::Response(ResponseType::BadOption),
-            0x83 => MessageClass::Response(ResponseType::Forbidden),
-            0x84 => MessageClass::Response(ResponseType::NotFound),
-            0x85 => MessageClass::Response(ResponseType::MethodNotAllowed),
-            0x86 => MessageClass::Response(ResponseType::NotAcceptable),
-            0x89 => MessageClass::Response(ResponseType::Conflict),
-            0x8C => MessageClass::Response(ResponseType::PreconditionFailed),
-            0x8D => MessageClass::Response(ResponseType::RequestEntityTooLarge),
-            0x8F => MessageClass::Response(ResponseType::UnsupportedContentFormat),
-            0x88 => MessageClass::Response(ResponseType::RequestEntityIncomplete),
-            0x96 => MessageClass::Response(ResponseType::UnprocessableEntity),
-            0x9D => MessageClass::Response(ResponseType::TooManyRequests),
-
-            0xA0 => MessageClass::Response(ResponseType::InternalServerError),
-            0xA1 => MessageClass::Response(ResponseType::NotImplemented),
-            0xA2 => MessageClass::Response(ResponseType::BadGateway),
-            0xA3 => MessageClass::Response(ResponseType::ServiceUnavailable),
-            0xA4 => MessageClass::Response(ResponseType::GatewayTimeout),
-            0xA5 => MessageClass::Response(ResponseType::ProxyingNotSupported),
-            0xA8 => MessageClass::Response(ResponseType::HopLimitReached),
-
-            n => MessageClass::Reserved(n),
-        }
+        table::class_named(table::CLASSES[number as usize], number)
     }
 
     // The code byte of a class. A request or response that is not known has FF.
