@@ -1,7 +1,7 @@
 //! coap-lite's answer to a request.
 
 use crate::words::{bytes, class_word, hex, kind_number, number, or_none, yes, Parts, Words};
-use crate::words::{LONGEST_LINE, MOST_ROOM, STORE};
+use crate::words::{DEFAULT_LIMIT, LONGEST_LINE, MOST_ROOM, STORE};
 use coap_lite::block_value::BlockValue;
 use coap_lite::error::{InvalidBlockValue, MessageError};
 use coap_lite::option_value::{OptionValueString, OptionValueU16, OptionValueU32, OptionValueU64, OptionValueU8};
@@ -93,18 +93,12 @@ fn refusal_number(error: MessageError) -> u8 {
     }
 }
 
-#[derive(Clone, Copy)]
-enum Limit {
-    Default,
-    Given(usize),
-    None,
-}
-
-fn limit(word: &[u8]) -> Option<Limit> {
+/// The limit that a word names, if it names one at all.
+fn limit(word: &[u8]) -> Option<Option<usize>> {
     Some(match word {
-        b"default" => Limit::Default,
-        b"none" => Limit::None,
-        given => Limit::Given(number(given, u64::MAX)? as usize),
+        b"default" => Some(DEFAULT_LIMIT),
+        b"none" => None,
+        given => Some(number(given, u64::MAX)? as usize),
     })
 }
 
@@ -120,11 +114,10 @@ fn write(mut words: Words) -> Option<String> {
     Some(write_packet(&parts.packet(), limit, room))
 }
 
-fn write_packet(packet: &Packet, limit: Limit, room: u64) -> String {
+fn write_packet(packet: &Packet, limit: Option<usize>, room: u64) -> String {
     let answer = match limit {
-        Limit::Default => packet.to_bytes(),
-        Limit::Given(limit) => packet.to_bytes_with_limit(limit),
-        Limit::None => packet.to_bytes_unlimited(),
+        Some(limit) => packet.to_bytes_with_limit(limit),
+        None => packet.to_bytes_unlimited(),
     };
     match answer {
         Ok(bytes) => written(&bytes, room),
@@ -277,8 +270,8 @@ fn edited(packet: &Packet, asked: &[String]) -> String {
         Some(Err(_)) => refused(13),
     };
     let asked = or_none(&asked.join(","));
-    let limited = write_packet(packet, Limit::Default, MOST_ROOM);
-    let whole = write_packet(packet, Limit::None, MOST_ROOM);
+    let limited = write_packet(packet, Some(DEFAULT_LIMIT), MOST_ROOM);
+    let whole = write_packet(packet, None, MOST_ROOM);
     format!("{shown} format {format} observe {observe} asked {asked} default {limited} none {whole}")
 }
 

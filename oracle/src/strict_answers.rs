@@ -2,7 +2,7 @@
 //! second time, straight from the documents: "01" is the scope of work, which has the numbers of the refusals and
 //! their order, and a section is one of RFC 7252 unless another is named. Names of code bytes alone are coap-lite's.
 
-use crate::words::{hex, kind, kind_number, number, yes, Parts, Words, LONGEST_LINE, MOST_ROOM};
+use crate::words::{hex, kind, kind_number, number, yes, Parts, Words, DEFAULT_LIMIT, LONGEST_LINE, MOST_ROOM};
 use coap_lite::MessageClass;
 
 /// 01, What a packet is here: the most bytes of a datagram or a store, and the most options.
@@ -125,10 +125,11 @@ fn take<'a>(rest: &mut &'a [u8], count: usize) -> Judged<&'a [u8]> {
 
 // ---- writing
 
-/// 01, Writing: 1,280 by default, or a given one, or none, which is here more than there are bytes to write.
+/// 01, Writing: by default, as 4.6 suggests, 1,152; or a given one, or none, which is here more than there are bytes to
+/// write.
 fn limit(word: &[u8]) -> Option<u64> {
     match word {
-        b"default" => Some(1280),
+        b"default" => Some(DEFAULT_LIMIT as u64),
         b"none" => Some(u64::MAX),
         given => number(given, u64::MAX),
     }

@@ -6,6 +6,9 @@ use std::sync::OnceLock;
 
 /// A longer line is no request.
 pub const LONGEST_LINE: usize = 200_000;
+/// The most that a packet may count where a request names no limit. coap-lite has another default: with this one it is
+/// asked by its given-limit form.
+pub const DEFAULT_LIMIT: usize = 1_152;
 /// The longest output that a request can lend.
 pub const MOST_ROOM: u64 = 71_000;
 /// How many bytes the store of an edit script holds.

@@ -7,7 +7,7 @@ use Rattle.refusal.specs.Answer.{Answer, given, refused, onward}
 use Rattle.class.specs.Class.{byteOf}
 use Rattle.class.specs.declared.MessageClass.{MessageClass}
 use Rattle.class.specs.declared.MessageClass.the-variants.{Empty, Request, Response, Reserved}
-use Rattle.packet.specs.Limits.{maxStore}
+use Rattle.packet.specs.Limits.{maxSize, maxStore}
 use Rattle.packet.specs.Packet.{nowhere, recordsOf}
 use Rattle.packet.specs.declared.Packet.{Packet}
 use Rattle.packet.specs.declared.Range.{Range}
@@ -39,9 +39,9 @@ writtenSize strict p =
     4 + p .token .len + optionsSize 0 (recordsOf p) + sentPayload strict (p .header .code) (p .payload) .len
     + markerSize (sentPayload strict (p .header .code) (p .payload) .len)
 
--- The size is over the limit: 1,280 by default, or the one given; without a limit none is.
+-- The size is over the limit: `maxSize` by default, or the one given; without a limit none is.
 abbrev pub over : Limit → ℕ → Bool
-over Default size = ltb 1280 size
+over Default size = ltb maxSize size
 over (Given limit) size = ltb limit size
 over Unlimited size = false
 

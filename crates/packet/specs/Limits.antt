@@ -5,6 +5,15 @@ use Prim.Native.Nat.{ℕ}
 abbrev pub maxStore : ℕ
 maxStore = 70000
 
+-- A message has at most 1,152 bytes by default: the bound of RFC 7252, section 4.6 where nothing is known of the path. The
+-- constant is `Packet::MAX_SIZE`.
+abbrev pub maxSize : ℕ
+maxSize = 1152
+
+-- A full-size message has at most 1,280 bytes, the MTU that the same section assumes: a limit to be given by name.
+abbrev pub fullSize : ℕ
+fullSize = 1280
+
 -- A packet has up to 128 option records.
 abbrev pub maxOptions : ℕ
 maxOptions = 128

@@ -82,8 +82,8 @@ pub enum NumberAt {
 }
 
 impl Packet {
-    // The largest message that is written by default.
-    pub const MAX_SIZE: usize = 1280;
+    // The largest message that is written by default (RFC 7252, section 4.6).
+    pub const MAX_SIZE: usize = 1152;
 
     // Version 1, confirmable, GET, id 0, and all else empty.
     pub fn new() -> Packet

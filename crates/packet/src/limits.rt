@@ -3,6 +3,9 @@
 // Datagram and store hold at most this many bytes.
 pub const MAX_STORE: usize = 70000;
 
+// The largest full-size message: a limit to be given by name, above Packet::MAX_SIZE and not made from it.
+pub const FULL_SIZE: usize = 1280;
+
 // A packet has up to this many option records.
 pub const MAX_OPTIONS: usize = 128;
 

@@ -10,6 +10,7 @@ use Rattle.class.specs.declared.MessageClass.{MessageClass}
 use Rattle.class.specs.declared.MessageClass.the-variants.{Empty, Request, Reserved}
 use Rattle.header.specs.declared.MessageType.the-variants.{Confirmable}
 use Rattle.class.specs.declared.RequestType.the-variants.{Get}
+use Rattle.packet.specs.Limits.{fullSize}
 use Rattle.packet.specs.Packet.{none, bytesIn}
 use Rattle.judging.specs.Judge.{badPacket, optionSize, extensionSize}
 use Rattle.packet.specs.declared.Packet.{Packet}
@@ -43,10 +44,25 @@ carrying class len = packet 1 class (range 0 0) [] (range 0 len)
 zeros : ℕ → List ℕ
 zeros n = replicate n 0
 
--- Plain drops the payload of class `Empty` and counts it, without a marker; class `Reserved(0)` keeps it with its marker.
-limits : (writing false Default 4 (zeros 1280) (carrying Empty 1276) ≡ given 4) × (writing false Default 4 (zeros 1280) (carrying Empty 1277) ≡ refused 5) × (writing false Default 1280 (zeros 1280) (carrying (Reserved 0) 1275) ≡ given 1280) × (writing false Default 1280 (zeros 1280) (carrying (Reserved 0) 1276) ≡ refused 5) × (writing false Default 1279 (zeros 1280) (carrying (Reserved 0) 1275) ≡ refused 12) × (writing false Unlimited 4 (zeros 1280) (carrying Empty 1277) ≡ given 4) × (writing false (Given 3) 4 [] (carrying Empty 0) ≡ refused 5)
+-- By default 1,152 counted bytes pass and 1,153 are 5, in both modes.
+defaults : (writing false Default 1152 (zeros 1148) (carrying (Request Get) 1147) ≡ given 1152) × (writing true Default 1152 (zeros 1148) (carrying (Request Get) 1147) ≡ given 1152) × (writing false Default 1153 (zeros 1148) (carrying (Request Get) 1148) ≡ refused 5) × (writing true Default 1153 (zeros 1148) (carrying (Request Get) 1148) ≡ refused 5)
 unfolding writing strictly limited markerSize badPacket bytesIn layout headerLayout range packet carrying zeros
-limits = (refl, refl, refl, refl, refl, refl, refl)
+defaults = (refl, refl, refl, refl)
+
+-- A limit that is given stands by itself, above the default too: 1,200 bytes under 1,280, and a full-size message.
+givens : (writing true (Given 1280) 1200 (zeros 1280) (carrying (Request Get) 1195) ≡ given 1200) × (writing true (Given fullSize) 1280 (zeros 1280) (carrying (Request Get) 1275) ≡ given 1280) × (writing true (Given fullSize) 1281 (zeros 1280) (carrying (Request Get) 1276) ≡ refused 5) × (writing false (Given 3) 4 [] (carrying Empty 0) ≡ refused 5)
+unfolding writing strictly limited markerSize badPacket bytesIn layout headerLayout range packet carrying zeros
+givens = (refl, refl, refl, refl)
+
+-- Plain drops the payload of class `Empty` and counts it, without a marker; class `Reserved(0)` keeps it with its marker.
+dropped : (writing false Default 4 (zeros 1149) (carrying Empty 1148) ≡ given 4) × (writing false Default 4 (zeros 1149) (carrying Empty 1149) ≡ refused 5) × (writing false Unlimited 4 (zeros 1149) (carrying Empty 1149) ≡ given 4) × (writing false Default 1152 (zeros 1149) (carrying (Reserved 0) 1147) ≡ given 1152) × (writing false Default 1152 (zeros 1149) (carrying (Reserved 0) 1148) ≡ refused 5)
+unfolding writing strictly limited markerSize badPacket bytesIn layout headerLayout range packet carrying zeros
+dropped = (refl, refl, refl, refl, refl)
+
+-- An empty message that carries comes before the limit, and the limit before the room.
+orders : (writing true Default 0 (zeros 2000) (carrying Empty 2000) ≡ refused 8) × (writing true Default 0 (zeros 1148) (carrying (Request Get) 1148) ≡ refused 5) × (writing true (Given 1153) 1152 (zeros 1148) (carrying (Request Get) 1148) ≡ refused 12) × (writing false Default 1151 (zeros 1148) (carrying (Request Get) 1147) ≡ refused 12)
+unfolding writing strictly limited markerSize badPacket bytesIn layout headerLayout range packet carrying zeros
+orders = (refl, refl, refl, refl)
 
 -- A header is four bytes: a smaller limit is 5, with no output too, and a smaller output 12.
 headers : (writing true (Given 0) 4 [] (carrying Empty 0) ≡ refused 5) × (writing false (Given 3) 0 [] (carrying Empty 0) ≡ refused 5) × (writing true (Given 4) 0 [] (carrying Empty 0) ≡ refused 12) × (writing false (Given 4) 3 [] (carrying Empty 0) ≡ refused 12) × (writing true (Given 4) 4 [] (carrying Empty 0) ≡ given 4)

@@ -1,7 +1,7 @@
 //! Random edit scripts in which no step is refused.
 
 use super::varied::{Varied, MOST_OPTIONS};
-use crate::words::{class_word, hex, STORE};
+use crate::words::{class_word, hex, DEFAULT_LIMIT, STORE};
 use std::collections::BTreeMap;
 use std::fmt::Write;
 
@@ -102,7 +102,7 @@ impl Varied {
         let mut script = self.start();
         let numbers = self.numbers();
         for _ in 0..4 {
-            let length = self.random.near(&[1280, 20_000, 40_000, 65_535, 65_802]);
+            let length = self.random.near(&[DEFAULT_LIMIT, 20_000, 40_000, 65_535, 65_802]);
             let bytes = self.random.bytes(length);
             let number = self.random.of(&numbers);
             match self.random.below(3) {

@@ -1,7 +1,7 @@
 //! Random requests, most of them beside a boundary.
 
 use super::random::Random;
-use crate::words::{hex, kind, named_classes, Parts, MOST_ROOM, STORE};
+use crate::words::{hex, kind, named_classes, Parts, DEFAULT_LIMIT, MOST_ROOM, STORE};
 use coap_lite::{ContentFormat, MessageClass};
 
 /// How many options a packet has at most.
@@ -88,7 +88,7 @@ impl Varied {
             _ => self.random.below(9),
         };
         let payload = match self.random.below(30) {
-            0 => self.random.near(&[256, 269, 1280]),
+            0 => self.random.near(&[256, 269, DEFAULT_LIMIT]),
             1..=15 => 0,
             _ => self.random.below(20),
         };
@@ -132,7 +132,7 @@ impl Varied {
     pub fn value(&mut self, among: usize) -> Vec<u8> {
         let length = match self.random.below(16 + 8 * among) {
             0..=3 => self.random.near(&FORMS),
-            4 => self.random.near(&[255, 512, 1034, 1275]),
+            4 => self.random.near(&[255, 512, 1034, DEFAULT_LIMIT - 5]),
             _ => self.random.below(6),
         };
         self.random.bytes(length)
@@ -314,11 +314,11 @@ impl Varied {
         self.write_of(&parts)
     }
 
-    /// Gives a packet the payload that brings it beside the default limit.
+    /// Gives a packet the payload that brings it beside the default limit, or beside coap-lite's own.
     fn stretch(&mut self, parts: &mut Parts) {
         parts.payload.clear();
         let size = counted(parts);
-        let aim = self.random.near(&[1280]);
+        let aim = self.random.near(&[DEFAULT_LIMIT, DEFAULT_LIMIT, 1280]);
         parts.payload = self.random.bytes(aim.saturating_sub(size + 1));
     }
 
@@ -342,7 +342,7 @@ impl Varied {
             0..=2 => "default".into(),
             3 | 4 => "none".into(),
             5 | 6 => self.random.near(&[counted(parts)]).to_string(),
-            _ => self.random.of(&[0, 3, 4, 5, 1279, 1280, 1281, u64::MAX]).to_string(),
+            _ => self.random.of(&[0, 3, 4, 5, 1151, 1152, 1153, 1280, 1281, u64::MAX]).to_string(),
         };
         let room = match self.random.below(8) {
             0 | 1 => self.random.near(&[length(parts)]) as u64,
