@@ -4,6 +4,7 @@
 
 mod comparison;
 mod plain_answers;
+mod register;
 mod requests;
 mod sample;
 mod strict_answers;

@@ -2,6 +2,7 @@
 
 mod listed;
 mod random;
+mod registered;
 mod scripts;
 mod short;
 mod varied;

@@ -1,7 +1,9 @@
-//! The answers that coap-lite can't give: strict messages and blocks, and the register. They are the rules written a
-//! second time, straight from the documents: "01" is the scope of work, which has the numbers of the refusals and
-//! their order, and a section is one of RFC 7252 unless another is named. Names of code bytes alone are coap-lite's.
+//! The answers that coap-lite can't give: strict messages and blocks here, the register in a file of its own. They are the
+//! rules written a second time, straight from the documents: "01" is the scope of work, which has the numbers of the
+//! refusals and their order, and a section is one of RFC 7252 unless another is named. Names of code bytes alone are
+//! coap-lite's.
 
+use crate::register;
 use crate::words::{hex, kind, kind_number, number, yes, Parts, Words, DEFAULT_LIMIT, LONGEST_LINE, MOST_ROOM};
 use coap_lite::MessageClass;
 
@@ -14,7 +16,7 @@ const LONGEST_VALUE: usize = 65_535 + 269;
 const LARGEST_BLOCK_NUMBER: u64 = 0xf_ffff;
 
 /// What is asked for, or the number of a refusal.
-type Judged<T> = Result<T, u8>;
+pub type Judged<T> = Result<T, u8>;
 
 fn demand(holds: bool, refusal: u8) -> Judged<()> {
     holds.then_some(()).ok_or(refusal)
@@ -43,8 +45,8 @@ fn answer_request(line: &[u8]) -> Option<Judged<String>> {
             block_write(room, number, words.flag()?, words.byte()?)
         }
         b"block-size-strict" => block_size(words.byte()?).map(|size| format!("size {size}")),
-        b"register" => register(&words.parts()?),
-        b"properties" => Ok(properties(words.option_number()?).map(yes).join(" ")),
+        b"register" => register::check(&words.parts()?),
+        b"properties" => Ok(register::properties(words.option_number()?).map(yes).join(" ")),
         _ => return None,
     };
     words.end()?;
@@ -164,7 +166,7 @@ fn write(limit: u64, room: u64, packet: &Parts) -> Judged<String> {
 }
 
 /// 01, Writing: 10, then the causes of 11. A request's ranges are inside its store.
-fn judge_records(packet: &Parts) -> Judged<()> {
+pub fn judge_records(packet: &Parts) -> Judged<()> {
     demand(packet.store() <= MOST_BYTES, 10)?;
     demand(packet.version <= 3 && packet.token.len() <= 15 && packet.options.len() <= MOST_OPTIONS, 11)?;
     demand(packet.options.iter().all(|(_, value)| value.len() <= LONGEST_VALUE), 11)?;
@@ -211,39 +213,4 @@ fn block_write(room: u64, number: u64, more: bool, exponent: u8) -> Judged<Strin
     let uint = number << 4 | u64::from(more) << 3 | u64::from(exponent);
     let bytes: Vec<u8> = uint.to_be_bytes().into_iter().skip_while(|&byte| byte == 0).collect();
     written(&bytes, room)
-}
-
-// ---- the register
-
-/// 01, Register: 10, then 11, then 16 with the index of the first record that gives it.
-fn register(packet: &Parts) -> Judged<String> {
-    judge_records(packet)?;
-    let bad = (0..packet.options.len()).find(|&index| is_bad(&packet.options, index));
-    Ok(bad.map_or("passes".into(), |index| format!("refused 16 {index}")))
-}
-
-/// 01, Register: unlisted and critical; or listed, and of a wrong length or a second one where one is the most. The
-/// lists are those of 5.10, of RFC 7641 2 for Observe and of RFC 7959 2.1 for Block2 and Block1.
-fn is_bad(options: &[(u16, Vec<u8>)], index: usize) -> bool {
-    let (number, value) = &options[index];
-    let lengths = match number {
-        1 => 0..=8,                  // If-Match
-        4 => 1..=8,                  // ETag
-        3 | 39 => 1..=255,           // Uri-Host, Proxy-Scheme
-        5 => 0..=0,                  // If-None-Match
-        6 | 23 | 27 => 0..=3,        // Observe, Block2, Block1
-        7 | 12 | 17 => 0..=2,        // Uri-Port, Content-Format, Accept
-        8 | 11 | 15 | 20 => 0..=255, // Location-Path, Uri-Path, Uri-Query, Location-Query
-        14 | 60 => 0..=4,            // Max-Age, Size1
-        35 => 1..=1034,              // Proxy-Uri
-        _ => return number % 2 == 1,
-    };
-    let repeatable = matches!(number, 1 | 4 | 8 | 11 | 15 | 20);
-    let again = options[..index].iter().any(|(earlier, _)| earlier == number);
-    !lengths.contains(&value.len()) || again && !repeatable
-}
-
-/// 5.4.6: critical, unsafe, no cache key.
-fn properties(number: u16) -> [bool; 3] {
-    [number & 1 != 0, number & 2 != 0, number & 0x1e == 0x1c]
 }

@@ -13,7 +13,7 @@ use Rattle.option_reading.specs.Answers.{foundOf}
 use Rattle.option_reading.specs.declared.Found.the-variants.{End, Option, Refused}
 use Rattle.splicing.proofs.Distinct.{one-edited}
 use Rattle.typed_options.proofs.Distinct.{one-observe}
-use Rattle.register.proofs.First.{one-checked}
+use Rattle.register.proofs.Order.{one-checked}
 use Rattle.unflat.specs.Unflat.{taken}
 use Rattle.refusal.specs.Answer.{Beside}
 use Rattle.packet.specs.declared.Packet.{Packet}

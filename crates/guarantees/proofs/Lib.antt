@@ -5,4 +5,5 @@ pub mod DefaultLimit
 pub mod StrictReading
 pub mod StrictWriting
 pub mod RoundTrips
+pub mod Register
 pub mod Samples

@@ -9,7 +9,8 @@ use Rattle.refusal.proofs.Answers.{not-refused, was-refused, old-beside}
 use Rattle.refusal.proofs.Distinct.{number-listed, numbers-are}
 use Rattle.packet.specs.Packet.{newPacket}
 use Rattle.reading.specs.Reading.{reading}
-use Rattle.guarantees.specs.Refusals.{Numbered, OutputKept, DoneOr, NoPacketRead, PacketKept, StoreKept, HeaderKept}
+use Rattle.register.proofs.Order.{none-kept}
+use Rattle.guarantees.specs.Refusals.{Numbered, OutputKept, DoneOr, NoPacketRead, PacketKept, StoreKept, HeaderKept, NothingKept}
 
 pub numbered : Numbered
 numbered = (number-listed, numbers-are)
@@ -35,3 +36,6 @@ store-kept (refused k) old r start bytes store new q e is = q .store
 
 pub header-kept : HeaderKept
 header-kept a old r q = besides (r .outcome) (r .header) old a q
+
+pub nothing-kept : NothingKept
+nothing-kept = none-kept

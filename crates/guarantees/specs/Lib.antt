@@ -5,3 +5,4 @@ pub mod DefaultLimit
 pub mod StrictReading
 pub mod StrictWriting
 pub mod RoundTrips
+pub mod Register

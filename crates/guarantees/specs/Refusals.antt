@@ -1,10 +1,11 @@
 -- Every operation answers a value or one numbered refusal, and a refused call changes no lent byte, no packet and no header.
 use Prim.Native.Nat.{ℕ}
 use mathlib.Core.Path.{_≡_}
-use mathlib.Core.Bool.{Bool}
+use mathlib.Core.Bool.{Bool, false}
 use mathlib.Core.List.{List, map}
 use mathlib.Core.Logic.{_⊎_}
 use lib.Dec.{T}
+use lib.ListN.{replicate}
 use Rattle.ground.specs.Table.{listed}
 use Rattle.refusal.specs.Answer.{Answer, written, after, beside}
 use Rattle.refusal.specs.Number.{numberOf, refusals, numbers}
@@ -16,6 +17,7 @@ use Rattle.refusal.specs.declared.Outcome.the-variants.{Done, Refused as Not}
 use Rattle.header.specs.Header.{settingOf}
 use Rattle.header.specs.declared.Header.{Header}
 use Rattle.header.specs.declared.HeaderSet.{HeaderSet}
+use Rattle.packet.specs.Limits.{maxOptions}
 use Rattle.packet.specs.Packet.{newPacket}
 use Rattle.packet.specs.declared.Packet.{Packet}
 use Rattle.reading.specs.Reading.{FromBytes}
@@ -23,6 +25,9 @@ use Rattle.reading.specs.declared.Decoded.{Decoded}
 use Rattle.splicing.specs.Edited.{Edits}
 use Rattle.splicing.specs.declared.Edited.{Edited}
 use Rattle.typed_options.specs.Setters.{Sets}
+use Rattle.register.specs.Check.{Checks}
+use Rattle.register.specs.declared.Checked.{Checked}
+use Rattle.register.specs.declared.Verdict.the-variants.{Passes}
 
 -- A refusal's number is one of those that there are, and each of those is a refusal's.
 abbrev pub Numbered : Type 0
@@ -55,3 +60,8 @@ StoreKept =
 -- A header that is set from refused text is the header as it came.
 abbrev pub HeaderKept : Type 0
 HeaderKept = (a : Answer Header) (old : Header) (r : HeaderSet) → settingOf r ≡ beside old a → DoneOr (r .outcome) (r .header) old
+
+-- Beside a refused check of the register no record is kept.
+abbrev pub NothingKept : Type 0
+NothingKept =
+    (store : ℕ) (p : Packet) (c : Checked) → Checks store p c → (c .outcome ≡ Passes) ⊎ (c .kept ≡ replicate maxOptions false)

@@ -24,12 +24,12 @@ pub fn named(line: &[u8]) -> Named {
     name_at(line, 0, &NAMES)
 }
 
-// Answers a request. A datagram or a packet goes to the store, and what is written to the room.
+// Answers a request. A datagram or a packet goes to the store, and what is written to the room, letters too.
 pub fn answer(name: Named, line: &[u8], store: &mut [u8], room: &mut [u8]) -> Reply {
     let strict = name.index % 2 == 1;
     match name.index / 2 {
         READ => reading_packets::read(strict, line, name.next, store),
         WRITE => Reply::of(writing_packets::answer(strict, line, name.next, store, room)),
-        _ => Reply::of(checking::answer(line, name.next, store)),
+        _ => Reply::of(checking::answer(line, name.next, store, room)),
     }
 }

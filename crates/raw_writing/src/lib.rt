@@ -22,17 +22,17 @@ pub fn named(line: &[u8]) -> Named {
 // Answers a request. The packet's bytes go to the store, and what is written to the room.
 pub fn answer(name: Named, line: &[u8], store: &mut [u8], room: &mut [u8]) -> Told {
     if name.index == REGISTER {
-        return register(line, name.next, store);
+        return register(line, name.next, store, room);
     }
     written::write(name.index == 1, line, name.next, store, room)
 }
 
 // register-raw RAW
-fn register(line: &[u8], at: usize, store: &mut [u8]) -> Told {
+fn register(line: &[u8], at: usize, store: &mut [u8], room: &mut [u8]) -> Told {
     let raw = raw_at(line, at, store);
     let packet = raw.packet;
     if !finished(line, raw.next) {
         return Told::no_request();
     }
-    check(packet, part(store, 0, raw.length))
+    check(packet, part(store, 0, raw.length), room)
 }

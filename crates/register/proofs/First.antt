@@ -1,134 +1,181 @@
--- Each answer of the check with its cause: the first record that breaks the register is named, a packet passes exactly when no
--- record breaks it; and what an answer says is said by no other answer.
-use Prim.Native.Nat.{ℕ, _<_, _≤_}
+-- What the marks and the index of a refusal say: a record is marked exactly when it is recognised after the kept ones before it, and
+-- the record that is named is the first critical one that isn't.
+use Prim.Native.Nat.{ℕ, zero, suc, _+_, _-_, _<_, _≤_}
 use mathlib.Core.Path.{_≡_, refl, sym, ap, subst, _∙_}
-use mathlib.Core.Bool.{Bool, true, false}
-use mathlib.Core.Logic.{_⊎_, inl, inr}
-use mathlib.Core.List.{List, [], _∷_, _++_, append-nil, map-append}
+use mathlib.Core.Bool.{Bool, true, false, not}
+use mathlib.Core.List.{List, [], _∷_, _++_, map}
+use native.Mathlib.Nat.{le-of-suc-le-suc, not-suc-le-zero}
 use native.Mathlib.Omega.{arith}
-use lib.ListN.{length, length-append, length-map}
-use lib.Seq.{append-snoc, take-append-seam, getD-append-seam}
-use borrow.Author.Count.{below-none, below-more}
-use borrow.Author.Tests.{lt-ltb, le-ltb}
-use Rattle.ground.specs.Table.{listed}
-use Rattle.ground.proofs.Choice.{on, on-lt, by-lt}
-use Rattle.refusal.specs.Number.{numberOf}
-use Rattle.refusal.proofs.Distinct.{distinct}
-use Rattle.packet.specs.Limits.{maxStore}
-use Rattle.packet.specs.Packet.{none, recordsOf}
-use Rattle.judging.specs.Judge.{badPacket}
-use Rattle.packet.specs.declared.Packet.{Packet}
+use lib.ListN.{length, take, getD, replicate, length-map, List·getD-append}
+use Rattle.ground.specs.Choice.{pick, both}
+use Rattle.ground.proofs.Choice.{by-lt}
+use Rattle.rfc.specs.Option.{critical}
+use Rattle.rfc.specs.Recognised.{Fate, kept, ignored, rejected, fate}
+use Rattle.packet.specs.Limits.{maxOptions}
+use Rattle.packet.specs.Packet.{none}
 use Rattle.packet.specs.declared.OptionRecord.{OptionRecord}
-use Rattle.register.specs.Register.{breaks}
-use Rattle.register.specs.Check.{Check, passes, refused, refusedAt, checked, firstBreak, checking}
-use Rattle.register.specs.First.{numbers, breaksAt, Right, First, Sound}
-use Rattle.register.specs.declared.Checked.{Checked}
-use Rattle.register.specs.declared.Checked.the-variants.{Passes, Refused, BadOption}
+use Rattle.register.specs.Check.{Check, passes, refused, refusedAt, recognisedAfter, keeping, fates, firstRejected, isKept, marks}
+use Rattle.register.specs.First.{keptAfter, recognisedAt, rejectedAt, NoneRejected, First}
 
--- What an answer of the walk says of all the records.
-abbrev Says : List OptionRecord → Check → Type 0
-Says rs passes = Right rs (length rs)
-Says rs (refused k) = ⊥
-Says rs (refusedAt k i) = (k ≡ 16) × First rs i
+-- A fate says whether its record is recognised, and whether it is critical and isn't.
+abbrev isRejected : Fate → Bool
+isRejected kept = false
+isRejected ignored = false
+isRejected rejected = true
 
--- The first record after some breaks the register where it does after their numbers.
-here-is : (rs done : List OptionRecord) (r : OptionRecord) (rest : List OptionRecord) → rs ≡ done ++ (r ∷ rest)
-    → breaksAt rs (length done) ≡ breaks (listed (r .number) (numbers done)) r
-here-is rs done r rest e =
-    ap (λ (l : List OptionRecord). breaksAt l (length done)) e
-    ∙ rw (getD-append-seam done r rest none, take-append-seam done (r ∷ rest))
+kept-so : (known needed : Bool) → isKept (pick known kept (pick needed rejected ignored)) ≡ known
+kept-so true needed = refl
+kept-so false true = refl
+kept-so false false = refl
 
-says : (rs done rest : List OptionRecord) → rs ≡ done ++ rest → Right rs (length done) → Says rs (firstBreak (numbers done) rest)
-says rs done [] e f =
-    let n : length rs ≡ length done = ap length (e ∙ append-nil done) in
-    λ j h. f j (omega arith)
-says rs done (r ∷ rest) e f =
-    on (Says rs) (breaks (listed (r .number) (numbers done)) r)
-    (λ t. (refl, rw (length-map done (λ (o : OptionRecord). o .number)) (record { inside = omega (arith, ap length e, length-append done (r ∷ rest)); here = here-is rs done r rest e ∙ t; before = f })))
-    (λ t. rw (← map-append (λ (o : OptionRecord). o .number) done (r ∷ []))
-    (says rs (done ++ (r ∷ [])) rest (e ∙ sym (append-snoc done r rest))
-    (rw (length-append done (r ∷ [])) (below-more (λ (j : ℕ). breaksAt rs j ≡ false) (length done) f (here-is rs done r rest e ∙ t)))))
+rejected-so : (known needed : Bool) → both needed (not known) ≡ isRejected (pick known kept (pick needed rejected ignored))
+rejected-so true true = refl
+rejected-so true false = refl
+rejected-so false true = refl
+rejected-so false false = refl
 
-of-all : (rs : List OptionRecord) → Says rs (firstBreak [] rs)
-of-all rs = says rs [] rs refl (below-none (λ (j : ℕ). breaksAt rs j ≡ false))
+fates-length : (before : List ℕ) (rs : List OptionRecord) → length (fates before rs) ≡ length rs
+fates-length before [] = refl
+fates-length before (r ∷ rs) = ap suc (fates-length (keeping before r) rs)
 
--- What breaks the register does not keep to it.
+-- The mark of a record.
+mark-at : (before : List ℕ) (rs : List OptionRecord) (i : ℕ) → i < length rs
+    → getD (map isKept (fates before rs)) i false ≡ recognisedAfter (keptAfter before (take i rs)) (getD rs i none)
+unfolding fate
+mark-at before [] i h = absurd (not-suc-le-zero h)
+mark-at before (r ∷ rs) zero h = kept-so (recognisedAfter before r) (critical (r .number))
+mark-at before (r ∷ rs) (suc i) h = mark-at (keeping before r) rs i (le-of-suc-le-suc h)
+
+all-false : (n i : ℕ) → getD (replicate n false) i false ≡ false
+all-false zero i = refl
+all-false (suc n) zero = refl
+all-false (suc n) (suc i) = all-false n i
+
+past-all : (xs : List Bool) (n i : ℕ) → length xs ≤ i → getD (xs ++ replicate n false) i false ≡ false
+past-all [] n i h = all-false n i
+past-all (x ∷ xs) n zero h = absurd (not-suc-le-zero h)
+past-all (x ∷ xs) n (suc i) h = past-all xs n i (le-of-suc-le-suc h)
+
+module _ (rs : List OptionRecord) (i : ℕ) where
+  marks-length : length (map isKept (fates [] rs)) ≡ length rs
+  marks-length = length-map (fates [] rs) isKept ∙ fates-length [] rs
+
+  pub mark-in : i < length rs → getD (marks (fates [] rs)) i false ≡ getD (map isKept (fates [] rs)) i false
+  mark-in h =
+      List·getD-append (map isKept (fates [] rs)) (replicate (maxOptions - length (fates [] rs)) false) false i (omega (arith, marks-length))
+
+  pub marked-at : i < length rs → getD (marks (fates [] rs)) i false ≡ recognisedAt rs i
+  marked-at h = mark-in h ∙ mark-at [] rs i h
+
+  pub unmarked-past : length rs ≤ i → getD (marks (fates [] rs)) i false ≡ false
+  unmarked-past h = past-all (map isKept (fates [] rs)) (maxOptions - length (fates [] rs)) i (omega (arith, marks-length))
+
+-- The same of records after kept ones of these numbers.
+abbrev rejectedIn : List ℕ → List OptionRecord → ℕ → Bool
+rejectedIn before rs i = both (critical (getD rs i none .number)) (not (recognisedAfter (keptAfter before (take i rs)) (getD rs i none)))
+
+record FirstIn (before : List ℕ) (rs : List OptionRecord) (i : ℕ) : Type 0 where
+  inside : i < length rs
+  here : rejectedIn before rs i ≡ true
+  earlier : (j : ℕ) → j < i → rejectedIn before rs j ≡ false
+
+-- The record that an answer names, where the first of them all has the index `k`.
+record Named (k : ℕ) (before : List ℕ) (rs : List OptionRecord) (m i : ℕ) : Type 0 where
+  number : m ≡ 16
+  place : ℕ
+  index : i ≡ k + place
+  first : FirstIn before rs place
+
+-- What an answer says of the records.
+abbrev Says : ℕ → List ℕ → List OptionRecord → Check → Type 0
+Says k before rs passes = (j : ℕ) → j < length rs → rejectedIn before rs j ≡ false
+Says k before rs (refused m) = ⊥
+Says k before rs (refusedAt m i) = Named k before rs m i
+
+-- What holds at 0 and of each index after one that is below holds of all below.
+below-suc : (P : ℕ → Type 0) (n : ℕ) → P 0 → ((j : ℕ) → j < n → P (suc j)) → (j : ℕ) → j < suc n → P j
+below-suc P n z f zero h = z
+below-suc P n z f (suc j) h = f j (le-of-suc-le-suc h)
+
+module _ (k : ℕ) (before : List ℕ) (r : OptionRecord) (rs : List OptionRecord) where
+  -- A record that isn't rejected leaves the answer to those after it.
+  goes-on : rejectedIn before (r ∷ rs) 0 ≡ false → (a : Check) → Says (k + 1) (keeping before r) rs a → Says k before (r ∷ rs) a
+  goes-on z passes s = below-suc (λ (j : ℕ). rejectedIn before (r ∷ rs) j ≡ false) (length rs) z s
+  goes-on z (refused m) s = absurd s
+  goes-on z (refusedAt m i) s =
+      record {
+        number = s .number;
+        place = suc (s .place);
+        index = omega (arith, s .index);
+        first = record {
+          inside = omega (arith, s .first .inside);
+          here = s .first .here;
+          earlier = below-suc (λ (j : ℕ). rejectedIn before (r ∷ rs) j ≡ false) (s .place) z (s .first .earlier);
+        };
+      }
+
+  turn : (f : Fate) → rejectedIn before (r ∷ rs) 0 ≡ isRejected f → Says (k + 1) (keeping before r) rs (firstRejected (k + 1) (fates (keeping before r) rs))
+      → Says k before (r ∷ rs) (firstRejected k (f ∷ fates (keeping before r) rs))
+  turn kept e s = goes-on e (firstRejected (k + 1) (fates (keeping before r) rs)) s
+  turn ignored e s = goes-on e (firstRejected (k + 1) (fates (keeping before r) rs)) s
+  turn rejected e s =
+      record {
+        number = refl;
+        place = 0;
+        index = omega arith;
+        first = record { inside = omega arith; here = e; earlier = λ j h. absurd (not-suc-le-zero h) };
+      }
+
+says : (k : ℕ) (before : List ℕ) (rs : List OptionRecord) → Says k before rs (firstRejected k (fates before rs))
+unfolding fate
+says k before [] = λ j h. absurd (not-suc-le-zero h)
+says k before (r ∷ rs) =
+    turn k before r rs (fate (r .number) (recognisedAfter before r)) (rejected-so (recognisedAfter before r) (critical (r .number)))
+    (says (k + 1) (keeping before r) rs)
+
+-- What is rejected isn't kept and isn't passed over.
 clash : {A : Type 0} (t : Bool) → t ≡ true → t ≡ false → A
 clash t e d = let z : true ≡ false = sym e ∙ d in let no : _≡_ {A = ℕ} 0 1 = cc in absurd (omega arith)
 
--- The first record is one.
-one-first : (rs : List OptionRecord) (i j : ℕ) → First rs i → First rs j → i ≡ j
-one-first rs i j f g =
-    by-lt i j (λ h. clash (breaksAt rs i) (f .here) (g .before i h))
-    (λ h. by-lt j i (λ l. clash (breaksAt rs j) (g .here) (f .before j l)) (λ l. omega arith))
+module _ (rs : List OptionRecord) where
+  abbrev answer : Check
+  answer = firstRejected 0 (fates [] rs)
 
-passes-right : (rs : List OptionRecord) (a : Check) → Says rs a → Right rs (length rs) → a ≡ passes
-passes-right rs passes s k = refl
-passes-right rs (refused n) s k = absurd s
-passes-right rs (refusedAt n i) s k = clash (breaksAt rs i) (s .1 .here) (k i (s .1 .inside))
+  -- A record that is the first, said without those before the records.
+  whole : {i : ℕ} → FirstIn [] rs i → First rs i
+  whole f = record { inside = f .inside; here = f .here; before = f .earlier }
 
-names-first : (rs : List OptionRecord) (i : ℕ) (a : Check) → Says rs a → First rs i → a ≡ refusedAt 16 i
-names-first rs i passes s f = clash (breaksAt rs i) (f .here) (s i (f .inside))
-names-first rs i (refused n) s f = absurd s
-names-first rs i (refusedAt n j) s f = rw (s .0, one-first rs j i (s .1) f)
+  -- The first record is one.
+  one-first : (i j : ℕ) → First rs i → First rs j → i ≡ j
+  one-first i j f g =
+      by-lt i j (λ h. clash (rejectedAt rs i) (f .here) (g .before i h))
+      (λ h. by-lt j i (λ l. clash (rejectedAt rs j) (g .here) (f .before j l)) (λ l. omega arith))
 
-module _ (store : ℕ) (p : Packet) where
-  -- The cause of an answer.
-  abbrev Told : Check → Type 0
-  Told passes = Sound store p × Right (recordsOf p) (length (recordsOf p))
-  Told (refused k) = ((k ≡ 10) × (maxStore < store)) ⊎ ((k ≡ 11) × ((store ≤ maxStore) × (badPacket store p ≡ true)))
-  Told (refusedAt k i) = (k ≡ 16) × (Sound store p × First (recordsOf p) i)
+  -- The records pass exactly when none of them is rejected.
+  pub passes-then : answer ≡ passes → NoneRejected rs (length rs)
+  passes-then e = subst (Says 0 [] rs) e (says 0 [] rs)
 
-  beside : Sound store p → (a : Check) → Says (recordsOf p) a → Told a
-  beside h passes s = (h, s)
-  beside h (refused k) s = absurd s
-  beside h (refusedAt k i) s = (s .0, (h, s .1))
+  pub passes-when : NoneRejected rs (length rs) → answer ≡ passes
+  passes-when n = go answer (says 0 [] rs)
+    where
+      go : (a : Check) → Says 0 [] rs a → a ≡ passes
+      go passes s = refl
+      go (refused k) s = absurd s
+      go (refusedAt k i) s = clash (rejectedAt rs (s .place)) (s .first .here) (n (s .place) (s .first .inside))
 
-  told : Told (checking store p)
-  unfolding checking
-  told =
-      on-lt Told maxStore store (λ long. inl (refl, long))
-      (λ short. on Told (badPacket store p) (λ bad. inr (refl, (short, bad)))
-      (λ good. beside (record { short = short; good = good }) (firstBreak [] (recordsOf p)) (of-all (recordsOf p))))
+  -- A record is named exactly when it is the first that is rejected.
+  pub named-then : (k i : ℕ) → answer ≡ refusedAt k i → First rs i
+  named-then k i e =
+      let s : Named 0 [] rs k i = subst (Says 0 [] rs) e (says 0 [] rs) in
+      let same : s .place ≡ i = omega (arith, s .index) in
+      subst (First rs) same (whole (s .first))
 
-  walked : Sound store p → checking store p ≡ firstBreak [] (recordsOf p)
-  unfolding checking
-  walked h = rw (le-ltb maxStore store (h .short), h .good)
-
-  -- A packet passes exactly when each of its records keeps to the register.
-  pub passes-then : checking store p ≡ passes → Sound store p × Right (recordsOf p) (length (recordsOf p))
-  passes-then e = subst Told e told
-
-  pub passes-when : Sound store p → Right (recordsOf p) (length (recordsOf p)) → checking store p ≡ passes
-  passes-when h k = walked h ∙ passes-right (recordsOf p) _ (of-all (recordsOf p)) k
-
-  -- A record is named exactly when it is the first that breaks the register.
-  pub named-then : (k i : ℕ) → checking store p ≡ refusedAt k i → (k ≡ 16) × (Sound store p × First (recordsOf p) i)
-  named-then k i e = subst Told e told
-
-  pub named-when : (i : ℕ) → Sound store p → First (recordsOf p) i → checking store p ≡ refusedAt 16 i
-  named-when i h f = walked h ∙ names-first (recordsOf p) i _ (of-all (recordsOf p)) f
-
-  -- 10 is given exactly for a store over 70,000 bytes, and 11 exactly for any other packet with a bad record.
-  pub refused-then : (k : ℕ) → checking store p ≡ refused k → ((k ≡ 10) × (maxStore < store)) ⊎ ((k ≡ 11) × ((store ≤ maxStore) × (badPacket store p ≡ true)))
-  refused-then k e = subst Told e told
-
-  pub too-long-when : maxStore < store → checking store p ≡ refused 10
-  unfolding checking
-  too-long-when h = rw (lt-ltb maxStore store h)
-
-  pub bad-when : store ≤ maxStore → badPacket store p ≡ true → checking store p ≡ refused 11
-  unfolding checking
-  bad-when h b = rw (le-ltb maxStore store h, b)
-
--- An answer in the words of the promise is that of one value only.
-pub one-checked : (a b : Checked) → checked a ≡ checked b → a ≡ b
-one-checked Passes Passes e = refl
-one-checked Passes (Refused y) e = cc
-one-checked Passes (BadOption j) e = cc
-one-checked (Refused x) Passes e = cc
-one-checked (Refused x) (Refused y) e = let k : numberOf x ≡ numberOf y = cc in rw (distinct x y k)
-one-checked (Refused x) (BadOption j) e = cc
-one-checked (BadOption i) Passes e = cc
-one-checked (BadOption i) (Refused y) e = cc
-one-checked (BadOption i) (BadOption j) e = cc
+  pub named-when : (i : ℕ) → First rs i → answer ≡ refusedAt 16 i
+  named-when i f = go answer (says 0 [] rs)
+    where
+      go : (a : Check) → Says 0 [] rs a → a ≡ refusedAt 16 i
+      go passes s = clash (rejectedAt rs i) (f .here) (s i (f .inside))
+      go (refused k) s = absurd s
+      go (refusedAt k j) s =
+          let same : j ≡ i = omega (arith, s .index, one-first (s .place) i (whole (s .first)) f) in
+          rw (s .number, same)

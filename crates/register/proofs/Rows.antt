@@ -1,7 +1,7 @@
 -- Laws of the register's rows: the row of a number is one of that number, and each row is that of its number.
 use Prim.Native.Nat.{ℕ, zero, suc, _+_, _<_, _≤_}
 use mathlib.Core.Path.{_≡_, refl, subst}
-use mathlib.Core.Bool.{Bool, true, false, not}
+use mathlib.Core.Bool.{Bool, false, not}
 use mathlib.Core.List.{List, [], _∷_, map}
 use native.Mathlib.Nat.{le-of-suc-le-suc, not-suc-le-zero}
 use native.Mathlib.Numerals.{add-one}
@@ -13,7 +13,7 @@ use Rattle.ground.specs.Table.{listed, once}
 use Rattle.ground.proofs.Choice.{on-eq}
 use Rattle.ground.proofs.Table.{both-left, both-right, entry-listed}
 use Rattle.packet.specs.declared.OptionRecord.{OptionRecord}
-use Rattle.register.specs.Register.{register, noRow, rowIn, breaks}
+use Rattle.register.specs.Register.{register, noRow, rowIn, isRecognised}
 use Rattle.register.specs.declared.row.Listing.{Listing}
 use Rattle.register.specs.declared.row.Row.{Row}
 use Rattle.register.specs.declared.row.Listing.the-variants.{Listed, Unlisted}
@@ -70,16 +70,20 @@ each-once = tt
 pub row-of-each : (k : ℕ) → k < length register → rowIn (getD register k noRow .0) register ≡ Listed (getD register k noRow)
 row-of-each = own-row register each-once
 
--- 9, 28 and 258 have names and no rows: 9 is refused, 28 and 258 pass.
-module _ (again : Bool) (r : OptionRecord) where
-  pub nine-breaks : r .number ≡ 9 → breaks again r ≡ true
-  unfolding breaks register
-  nine-breaks e = rw e
+-- 0 is in no row; 9, 28 and 258 have names and no rows. So none of them is recognised: 9 is refused, the others are passed over.
+module _ (before : Bool) (r : OptionRecord) where
+  pub zero-unknown : r .number ≡ 0 → isRecognised before r ≡ false
+  unfolding isRecognised register
+  zero-unknown e = rw e
 
-  pub size2-passes : r .number ≡ 28 → breaks again r ≡ false
-  unfolding breaks register
-  size2-passes e = rw e
+  pub nine-unknown : r .number ≡ 9 → isRecognised before r ≡ false
+  unfolding isRecognised register
+  nine-unknown e = rw e
 
-  pub no-response-passes : r .number ≡ 258 → breaks again r ≡ false
-  unfolding breaks register
-  no-response-passes e = rw e
+  pub size2-unknown : r .number ≡ 28 → isRecognised before r ≡ false
+  unfolding isRecognised register
+  size2-unknown e = rw e
+
+  pub no-response-unknown : r .number ≡ 258 → isRecognised before r ≡ false
+  unfolding isRecognised register
+  no-response-unknown e = rw e

@@ -1,3 +1,4 @@
 pub mod Register
 pub mod Check
 pub mod First
+pub mod Severe

@@ -1,10 +1,10 @@
--- The register of options: the listed numbers with the lengths of their values, and what makes a record break it.
+-- The register of options: the listed numbers with the lengths of their values, and which records are recognised.
 use Prim.Native.Nat.{ℕ}
-use mathlib.Core.Bool.{Bool, true, false, not}
+use mathlib.Core.Bool.{Bool, true, false}
 use mathlib.Core.List.{List, [], _∷_}
-use lib.Dec.{ltb, eqb}
-use Rattle.ground.specs.Choice.{pick, both, either}
-use Rattle.rfc.specs.Option.{critical}
+use lib.Dec.{eqb}
+use Rattle.ground.specs.Choice.{pick}
+use Rattle.rfc.specs.Recognised.{Definition, recognised}
 use Rattle.packet.specs.declared.OptionRecord.{OptionRecord}
 use Rattle.register.specs.declared.row.Row.{Row}
 use Rattle.register.specs.declared.row.Listing.{Listing}
@@ -46,15 +46,24 @@ abbrev pub rowIn : ℕ → List Row → Listing
 rowIn n [] = Unlisted
 rowIn n (r ∷ rs) = pick (eqb (r .0) n) (Listed r) (rowIn n rs)
 
--- A record breaks its row: its value is too short or too long, or it is the second of a number not repeatable.
-abbrev pub breaksRow : Row → ℕ → Bool → Bool
-breaksRow r len again = either (ltb len (r .1)) (either (ltb (r .2) len) (both again (not (r .3))))
+-- A listing is that of a listed number.
+abbrev pub isRow : Listing → Bool
+isRow (Listed r) = true
+isRow Unlisted = false
 
--- What a listing says of a record of the number: an unlisted critical one breaks the register, an unlisted elective one passes.
-abbrev pub breaksListing : Listing → ℕ → ℕ → Bool → Bool
-breaksListing (Listed r) number len again = breaksRow r len again
-breaksListing Unlisted number len again = critical number
+-- The register lists the number.
+unfoldable pub registered : ℕ → Bool
+registered n = isRow (rowIn n register)
 
--- A record breaks the register, where `again` says that an earlier record has its number.
-unfoldable pub breaks : Bool → OptionRecord → Bool
-breaks again r = breaksListing (rowIn (r .number) register) (r .number) (r .len) again
+-- What a row defines of its option.
+abbrev pub definitionOf : Row → Definition
+definitionOf r = record { shortest = r .1; longest = r .2; repeatable = r .3 }
+
+-- What a listing says of a record: one that is listed goes by its definition, and no other is recognised.
+abbrev pub recognisedBy : Listing → ℕ → Bool → Bool
+recognisedBy (Listed r) len before = recognised (definitionOf r) len before
+recognisedBy Unlisted len before = false
+
+-- A record is recognised, where `before` says that a kept record before it has its number.
+unfoldable pub isRecognised : Bool → OptionRecord → Bool
+isRecognised before r = recognisedBy (rowIn (r .number) register) (r .len) before

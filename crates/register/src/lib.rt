@@ -1,21 +1,20 @@
 // The register of options: what an option's number says, and the check of a packet's options.
 use judging::Judged;
 use packet::Packet;
+use packet::limits::MAX_OPTIONS;
 use packet::limits::MAX_STORE;
 use refusal::Refusal;
-use row::breaks;
+use row::is_recognised;
 ghost use mathlib.Core.Path.{_≡_};
 ghost use mathlib.Core.Bool.{Bool};
 ghost use mathlib.Core.List.{[]};
 ghost use Prim.Native.Nat.{_≤_};
 ghost use lib.ListN.{length};
-ghost use lib.Dec.{ltb, eqb};
-ghost use Rattle.ground.specs.Choice.{both};
 ghost use Rattle.rfc.specs.Option.{critical, unsafe, noCacheKey};
 ghost use Rattle.packet.specs.Packet.{recordsOf};
 ghost use Rattle.packet.specs.Limits.{maxOptions};
 ghost use Rattle.judging.specs.Judge.{falling};
-ghost use Rattle.register.specs.Check.{checked, checking, firstBreak};
+ghost use Rattle.register.specs.Check.{told, nothingKept, checked, fates, sorted, Checks};
 
 mod row;
 
@@ -40,50 +39,69 @@ pub fn is_no_cache_key(number: u16) -> bool
     number % 32 == 28 || number % 32 == 29
 }
 
-// What the check of a packet answers.
-pub enum Checked {
+// What the check says of a packet.
+pub enum Verdict {
     Passes,
     Refused(Refusal),
-    // The record at an index, counted from 0, breaks the register.
+    // The record at an index, counted from 0, is critical and isn't recognised.
     BadOption(usize),
+}
+
+// What the check of a packet answers: what it says of the packet, and which of its records are kept. Of a packet that passes,
+// the others are passed over; beside a refusal none is kept.
+pub struct Checked {
+    pub outcome: Verdict,
+    pub kept: [bool; MAX_OPTIONS],
 }
 
 // Checks the options of a packet over its store.
 pub fn check(packet: Packet, store: &[u8]) -> Checked
-    ensures { λ r. ⌜ checked r ≡ checking (length (now (store .entry))) packet ⌝ }
+    ensures { λ r. ⌜ Checks (length (now (store .entry))) packet r ⌝ }
 {
     if MAX_STORE < store.len() {
-        return Checked::Refused(Refusal::TooLong);
+        return refused(Verdict::Refused(Refusal::TooLong));
     }
     match judging::judge(packet, store.len()) {
-        Judged::BadRecord => Checked::Refused(Refusal::BadRecord),
-        Judged::OptionsSize(_) => first_break(packet),
+        Judged::BadRecord => refused(Verdict::Refused(Refusal::BadRecord)),
+        Judged::OptionsSize(_) => sort(packet),
     }
 }
 
-// The first record that breaks the register. Since the numbers never fall, an earlier record has a record's number
-// exactly when the one before it has.
-fn first_break(packet: Packet) -> Checked
+// A refusal, beside which no record is kept.
+fn refused(outcome: Verdict) -> Checked
+    ensures { λ r. ⌜ checked r ≡ nothingKept (told outcome) ⌝ }
+{
+    Checked {
+        outcome,
+        kept: [false; MAX_OPTIONS],
+    }
+}
+
+// Keeps each record that is recognised, and refuses the first other one that is critical. Since the numbers never fall, a kept
+// record has a record's number exactly when the last one kept has; 0, which stands for none, is in no row.
+fn sort(packet: Packet) -> Checked
     requires { ⌜ (packet .count ≤ maxOptions) × (falling 0 (recordsOf packet) ≡ Bool.false) ⌝ }
-    ensures { λ r. ⌜ checked r ≡ firstBreak [] (recordsOf packet) ⌝ }
+    ensures { λ r. ⌜ checked r ≡ sorted (fates [] (recordsOf packet)) ⌝ }
 {
     let count = packet.count;
-    let mut before: u16 = 0;
+    let options = packet.options;
+    let mut kept = [false; MAX_OPTIONS];
+    let mut last: u16 = 0;
     let mut i = 0;
     while i < count {
-        let option = packet.options[i];
-        if breaks(option, is_again(i, option.number, before)) {
-            return Checked::BadOption(i);
+        let option = options[i];
+        if is_recognised(option, option.number == last) {
+            kept[i] = true;
+            last = option.number;
+            i = i + 1;
+        } else if is_critical(option.number) {
+            return refused(Verdict::BadOption(i));
+        } else {
+            i = i + 1;
         }
-        before = option.number;
-        i = i + 1;
     }
-    Checked::Passes
-}
-
-// Whether a record follows one of its number.
-fn is_again(index: usize, number: u16, before: u16) -> bool
-    ensures { λ r. ⌜ r ≡ both (ltb 0 index) (eqb number before) ⌝ }
-{
-    0 < index && number == before
+    Checked {
+        outcome: Verdict::Passes,
+        kept,
+    }
 }

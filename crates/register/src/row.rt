@@ -1,10 +1,11 @@
-// The rows of the register, and what makes a record break it.
+// The rows of the register, and which records they recognise.
 use packet::OptionRecord;
 use tables::option_number::*;
 ghost use mathlib.Core.Path.{_≡_};
 ghost use Prim.Native.Nat.{_<_};
 ghost use lib.ListN.{length, getD};
-ghost use Rattle.register.specs.Register.{register, noRow, rowIn, breaksRow, breaks};
+ghost use Rattle.rfc.specs.Recognised.{recognised};
+ghost use Rattle.register.specs.Register.{register, noRow, rowIn, definitionOf, isRecognised};
 
 // A listed option: its number, its shortest and its longest value, and whether a packet may have several.
 pub struct Row(pub u16, pub u32, pub u32, pub bool);
@@ -60,29 +61,29 @@ fn row_of(number: u16) -> Listing
 }
 
 impl Row {
-    // Whether a value of the length, after an earlier record of the number or not, breaks the row.
-    fn breaks(self, len: u32, again: bool) -> bool
-        ensures { λ r. ⌜ r ≡ breaksRow self len again ⌝ }
+    // Whether a value of the length is recognised, where `before` says that a kept record before it has the number.
+    fn recognises(self, len: u32, before: bool) -> bool
+        ensures { λ r. ⌜ r ≡ recognised (definitionOf self) len before ⌝ }
     {
         let shortest = self.1;
         let longest = self.2;
         let repeatable = self.3;
         if len < shortest {
-            return true;
+            return false;
         }
         if longest < len {
-            return true;
+            return false;
         }
-        again && !repeatable
+        !before || repeatable
     }
 }
 
-// Whether a record breaks the register, where `again` says that an earlier record has its number.
-pub(crate) fn breaks(option: OptionRecord, again: bool) -> bool
-    ensures { λ r. ⌜ r ≡ breaks again option ⌝ }
+// Whether a record is recognised, where `before` says that a kept record before it has its number.
+pub(crate) fn is_recognised(option: OptionRecord, before: bool) -> bool
+    ensures { λ r. ⌜ r ≡ isRecognised before option ⌝ }
 {
     match row_of(option.number) {
-        Listing::Listed(row) => row.breaks(option.len, again),
-        Listing::Unlisted => crate::is_critical(option.number),
+        Listing::Listed(row) => row.recognises(option.len, before),
+        Listing::Unlisted => false,
     }
 }

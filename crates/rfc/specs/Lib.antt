@@ -3,3 +3,4 @@ pub mod Uint
 pub mod Block
 pub mod Text
 pub mod Option
+pub mod Recognised

@@ -73,6 +73,8 @@ pub enum Tail {
     Stored(usize),
     // So many bytes from the start of a writer's output.
     Written(usize),
+    // So many letters from there, as they stand.
+    Letters(usize),
 }
 
 pub struct Told {
@@ -264,6 +266,7 @@ fn put_tail(out: &mut [u8], place: usize, tail: Tail, store: &[u8], output: &[u8
         }
         Tail::Stored(length) => put_value(out, place, part(store, 0, length)),
         Tail::Written(length) => put_value(out, place, part(output, 0, length)),
+        Tail::Letters(length) => put_letters(out, place, part(output, 0, length)),
     }
 }
 
@@ -276,4 +279,13 @@ fn put_word_of(out: &mut [u8], place: usize, class: MessageClass) -> usize {
 pub fn put_value(out: &mut [u8], place: usize, bytes: &[u8]) -> usize {
     let next = put_byte(out, place, b' ');
     put_hex(out, next, bytes)
+}
+
+// Puts letters with a space before them; a dash where there are none.
+fn put_letters(out: &mut [u8], place: usize, letters: &[u8]) -> usize {
+    let next = put_byte(out, place, b' ');
+    if letters.len() == 0 {
+        return put_byte(out, next, b'-');
+    }
+    put_bytes(out, next, letters)
 }

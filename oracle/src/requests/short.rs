@@ -1,5 +1,6 @@
 //! Every short input of every kind.
 
+use crate::register::lengths;
 use crate::words::{class_word, hex, named_classes};
 use coap_lite::MessageClass;
 
@@ -25,6 +26,7 @@ pub fn strict(put: &mut dyn FnMut(String)) {
     for number in 0..=65535 {
         put(format!("properties {number}"));
     }
+    registers(put);
 }
 
 /// All byte strings of at most two bytes.
@@ -156,4 +158,54 @@ fn blocks(put: &mut dyn FnMut(String)) {
     for exponent in 0..=7 {
         put(format!("block-size {exponent}"));
     }
+}
+
+/// Each number up to the listed ones and beside them, with lengths beside those of any; and all lists of up to three
+/// records of the numbers below.
+fn registers(put: &mut dyn FnMut(String)) {
+    for number in (0..=64).chain([257, 258, 259, 65535]) {
+        for length in [0, 1, 2, 3, 4, 5, 8, 9, 255, 256, 1034, 1035] {
+            put(register(&[(number, length)]));
+        }
+    }
+    // those that are listed, three elective ones and a critical one that aren't
+    const NUMBERS: [u16; 22] = [1, 2, 3, 4, 5, 6, 7, 8, 9, 11, 12, 14, 15, 17, 20, 23, 27, 28, 35, 39, 60, 258];
+    let records: Vec<(u16, usize)> = NUMBERS
+        .into_iter()
+        .flat_map(|number| lengths_beside_bounds(number).into_iter().map(move |length| (number, length)))
+        .collect();
+    let mut lists = vec![Vec::new()];
+    for _ in 0..3 {
+        let longer = |list: &Vec<(u16, usize)>| {
+            let list = list.clone();
+            let last = list.last().map_or(0, |&(number, _)| number);
+            let next = records.iter().filter(move |&&(number, _)| number >= last);
+            next.map(move |&record| [&list[..], &[record]].concat())
+        };
+        lists = lists.iter().flat_map(longer).collect();
+        lists.iter().for_each(|list| put(register(list)));
+    }
+}
+
+/// A good and a bad length at each bound that is a few bytes, or no bytes where there is none.
+fn lengths_beside_bounds(number: u16) -> Vec<usize> {
+    let lengths = lengths(number).unwrap_or(0..=255);
+    let (shortest, longest) = (*lengths.start(), *lengths.end());
+    let mut beside = Vec::new();
+    if shortest > 0 {
+        beside.extend([shortest - 1, shortest]);
+    }
+    if longest < 9 {
+        beside.extend([longest, longest + 1]);
+    }
+    if beside.is_empty() {
+        beside.push(0);
+    }
+    beside
+}
+
+fn register(records: &[(u16, usize)]) -> String {
+    let option = |&(number, length): &(u16, usize)| format!("{number}:{}", hex(&vec![0; length]));
+    let options: Vec<String> = records.iter().map(option).collect();
+    format!("register 1 0 Request.Get 1 - {} -", options.join(","))
 }

@@ -138,30 +138,8 @@ impl Varied {
         self.random.bytes(length)
     }
 
-    /// A packet with options that pass the register, and a few that need not.
-    fn registered(&mut self) -> Parts {
-        const PASSING: [u16; 8] = [1, 4, 8, 11, 15, 20, 28, 258];
-        const TELLING: [u16; 24] =
-            [1, 3, 4, 5, 6, 7, 8, 11, 12, 14, 15, 17, 20, 23, 27, 35, 39, 60, 9, 28, 258, 0, 2, 13];
-        let mut parts = self.parts();
-        let passing = if self.random.one_in(20) { self.random.below(MOST_OPTIONS) } else { self.random.below(4) };
-        let passes = |_| (self.random.of(&PASSING), self.random.bytes(1));
-        parts.options = (0..passing).map(passes).collect();
-        for _ in 0..self.random.below(4) {
-            let length = self.random.near(&[0, 2, 2, 4, 8, 255, 1034]);
-            let option = (self.random.of(&TELLING), self.random.bytes(length));
-            let times = 1 + usize::from(self.random.one_in(3));
-            parts.options.extend(vec![option; times]);
-        }
-        parts.options.sort_by_key(|&(number, _)| number);
-        if self.random.one_in(6) {
-            self.spoil(&mut parts);
-        }
-        parts
-    }
-
     /// Brings one thing in a packet beside the most that a writer takes.
-    fn spoil(&mut self, parts: &mut Parts) {
+    pub fn spoil(&mut self, parts: &mut Parts) {
         match self.random.below(4) {
             0 => parts.version = self.random.near(&[3, 253]) as u8,
             1 => {

@@ -6,7 +6,7 @@ use borrow.Author.Needs.{needs}
 use borrow.Author.Tests.{lt-ltb, le-ltb}
 use Rattle.judging.specs.Judge.{badPacket}
 use Rattle.judging.proofs.Good.{good, is-bad, is-good}
-use Rattle.register.specs.Check.{checking}
+use Rattle.register.specs.Check.{inOrder}
 use Rattle.register.proofs.check.Statement.{statement}
 use Rattle.register.proofs.check.Tie as tie
 
@@ -14,9 +14,12 @@ use Rattle.register.proofs.check.Tie as tie
 no-bad : (c : tie.After-enum-told2) → badPacket (length (c .before .before .before .before .before .args .store .now)) (c .before .before .before .before .before .args .packet) ≡ false
 no-bad c = is-good _ _ _ (c .before .before .judge .ensures) _ (c .enum-told2 .given .1) .0
 
+refused-requires : tie.Need-refused-requires
+refused-requires c κs = search needs
+
 returns : tie.Need-returns
-unfolding checking
-returns c = rw (lt-ltb _ _ (c .if1 .taken))
+unfolding inOrder
+returns c = rw (lt-ltb _ _ (c .before .if1 .taken)) (c .refused .ensures)
 
 judge-requires : tie.Need-judge-requires
 judge-requires c κs = search needs
@@ -24,28 +27,35 @@ judge-requires c κs = search needs
 enum-told : tie.Need-enum-told
 enum-told c = search needs
 
+refused-requires-2 : tie.Need-refused-requires-2
+refused-requires-2 c κs = search needs
+
 enum-told-2 : tie.Need-enum-told-2
 enum-told-2 c = search needs
 
-first-break-requires : tie.Need-first-break-requires
-first-break-requires c κs = let g = good _ _ (no-bad c) in (g .count, g .ordered)
+sort-requires : tie.Need-sort-requires
+sort-requires c κs = let g = good _ _ (no-bad c) in (g .count, g .ordered)
 
 returns-2 : tie.Need-returns-2
-unfolding checking
-returns-2 c = rw (le-ltb _ _ (c .before .before .before .if1 .left), is-bad _ _ _ (c .before .before .judge .ensures) (c .enum-told .given .1))
+unfolding inOrder
+returns-2 c =
+    rw (le-ltb _ _ (c .before .before .before .before .if1 .left), is-bad _ _ _ (c .before .before .before .judge .ensures) (c .before .enum-told .given .1))
+    (c .refused2 .ensures)
 
 returns-3 : tie.Need-returns-3
-unfolding checking
-returns-3 c = rw (le-ltb _ _ (c .before .before .before .before .if1 .left), no-bad (c .before)) (c .first-break .ensures)
+unfolding inOrder
+returns-3 c = rw (le-ltb _ _ (c .before .before .before .before .if1 .left), no-bad (c .before)) (c .sort .ensures)
 
 pub check-spec : {M : Type 1} → statement M
 check-spec =
     tie.close
     (tie.spec
+    refused-requires
     returns
     judge-requires
     enum-told
+    refused-requires-2
     enum-told-2
-    first-break-requires
+    sort-requires
     returns-2
     returns-3)
