@@ -1,5 +1,6 @@
 //! The comparison of two lists of answers to the same requests.
 
+use crate::counts;
 use std::fs::File;
 use std::io::{self, BufRead, BufReader, Write};
 
@@ -9,12 +10,14 @@ const SHOWN: usize = 10;
 const WIDTH: usize = 160;
 
 /// Writes the first differences and, last, how many requests were compared and how many answers differ; answers the
-/// latter. A list that is short differs in the answers that it lacks, and so does one that is too long.
-pub fn count(files: [&str; 3], out: &mut impl Write) -> io::Result<usize> {
+/// latter. A list that is short differs in the answers that it lacks, and so does one that is too long. The counts of zeros
+/// in the second list are compared where it is asked for.
+pub fn count(files: [&str; 3], with_counts: bool, out: &mut impl Write) -> io::Result<usize> {
     let (mut compared, mut different) = (0, 0);
     each(files, |request, rust, rattle| {
         compared += 1;
-        if same(request, rust, rattle) {
+        let compared_part = rattle.map(|line| if with_counts { line.to_vec() } else { counts::left_out(line) });
+        if same(request, rust, compared_part.as_deref()) {
             return Ok(());
         }
         different += 1;

@@ -3,11 +3,13 @@
 #![forbid(unsafe_code)]
 
 mod comparison;
+mod counts;
 mod plain_answers;
 mod register;
 mod requests;
 mod sample;
 mod strict_answers;
+mod uints;
 mod words;
 
 use std::io::{self, BufRead, BufWriter, Write};
@@ -16,12 +18,13 @@ use std::process::ExitCode;
 use std::{env, panic};
 
 const USAGE: &str = "usage: oracle answer              coap-lite's answers to the requests on standard input
-       oracle answer-strict       the answers to those that coap-lite has none to, from the documents
+       oracle answer-strict       the answers to those that coap-lite has none to, or not all of it, from the documents
        oracle plain SEED SIZE     requests that coap-lite has to answer as the Rattle program does
-       oracle strict SEED SIZE    requests that coap-lite has no answer to
+       oracle strict SEED SIZE    requests that coap-lite has no answer to, or not all of it
        oracle outside             requests outside coap-lite's part, to show what differs
        oracle sample FOLDER       writes requests and expected answers to FOLDER/stdin and FOLDER/stdout
-       oracle differ REQUESTS RUST RATTLE     how many of the answers in the two files differ
+       oracle differ REQUESTS RUST RATTLE     how many of the answers in the two files differ, counts of zeros apart
+       oracle differ-strict REQUESTS RUST RATTLE      the same, counts of zeros and all
        oracle show REQUESTS RUST RATTLE       each request with both answers";
 
 fn main() -> ExitCode {
@@ -41,7 +44,7 @@ fn run(words: &[&str]) -> io::Result<ExitCode> {
     let mut out = BufWriter::new(io::stdout().lock());
     let number = |word: &str| word.parse().map_err(|_| io::Error::other(format!("{word} is no number\n{USAGE}")));
     let mut status = ExitCode::SUCCESS;
-    if matches!(words, ["answer"] | ["sample", _]) {
+    if matches!(words, ["answer" | "answer-strict"] | ["sample", _]) {
         // coap-lite's panics are answers, and not to be reported.
         panic::set_hook(Box::new(|_| ()));
     }
@@ -52,8 +55,8 @@ fn run(words: &[&str]) -> io::Result<ExitCode> {
         ["strict", seed, size] => requests::strict(number(seed)?, number(size)? as usize, &mut out)?,
         ["sample", folder] => sample::write(Path::new(folder))?,
         ["outside"] => requests::outside(&mut out)?,
-        ["differ", requests, rust, rattle] => {
-            if comparison::count([requests, rust, rattle], &mut out)? > 0 {
+        [verdict @ ("differ" | "differ-strict"), requests, rust, rattle] => {
+            if comparison::count([requests, rust, rattle], verdict == "differ-strict", &mut out)? > 0 {
                 status = ExitCode::FAILURE;
             }
         }

@@ -32,9 +32,7 @@ impl<W: Write> Lines<'_, W> {
     }
 
     fn put_strict(&mut self, line: &str) {
-        if let Some(line) = strict_form(line) {
-            self.put(&line);
-        }
+        strict_forms(line).iter().for_each(|line| self.put(line));
     }
 
     /// All that a list has; or, where that would be more than three quarters of what is left, only every third, fifth ..
@@ -65,12 +63,12 @@ pub fn plain(seed: u64, size: usize, out: &mut impl Write) -> io::Result<()> {
     lines.fault
 }
 
-/// The strict forms of plain requests, and requests that have no plain form.
+/// The strict forms of plain requests, requests that have no plain form, and those whose answers have counts of zeros.
 pub fn strict(seed: u64, size: usize, out: &mut impl Write) -> io::Result<()> {
     let mut lines = Lines { out, left: size, fault: Ok(()) };
     listed::plain(&mut |line| lines.put_strict(&line));
     listed::strict(&mut |line| lines.put(&line));
-    lines.put_thinned(|put| short::strict(&mut |line| strict_form(&line).into_iter().for_each(&mut *put)));
+    lines.put_thinned(|put| short::strict(&mut |line| strict_forms(&line).into_iter().for_each(&mut *put)));
     let mut varied = Varied::new(Random::new(seed));
     while lines.go_on() {
         lines.put_strict(&varied.strict());
@@ -86,22 +84,29 @@ pub fn outside(out: &mut impl Write) -> io::Result<()> {
     lines.fault
 }
 
-/// The kinds of request that have a strict form, and those that have no plain one.
+/// The kinds of request that have a strict form, those that have no plain one, and those whose answers have counts of zeros,
+/// which coap-lite doesn't tell.
 const BOTH: [&str; 6] = ["read", "write", "block-new", "block-read", "block-write", "block-size"];
 const STRICT: [&str; 2] = ["register", "properties"];
+const COUNTED: [&str; 4] = ["uint-read", "to-uint", "block-read", "edit"];
 
-/// The strict form of a request; one that has no plain form is its own.
-fn strict_form(line: &str) -> Option<String> {
-    let (name, rest) = line.split_once(' ')?;
-    if BOTH.contains(&name) {
-        return Some(format!("{name}-strict {rest}"));
+/// What a strict comparison asks of a request: its strict form; itself, if it has no plain form or its answer has counts.
+fn strict_forms(line: &str) -> Vec<String> {
+    let mut forms = Vec::new();
+    if let Some((name, rest)) = line.split_once(' ') {
+        if BOTH.contains(&name) {
+            forms.push(format!("{name}-strict {rest}"));
+        }
+        if STRICT.contains(&name) || COUNTED.contains(&name) {
+            forms.push(line.into());
+        }
     }
-    STRICT.contains(&name).then(|| line.into())
+    forms
 }
 
 /// The place of a strict request's kind among the kinds.
 fn strict_kind(line: &str) -> Option<usize> {
     let name = line.split(' ').next()?;
     let name = name.strip_suffix("-strict").unwrap_or(name);
-    BOTH.iter().chain(&STRICT).position(|&kind| kind == name)
+    BOTH.iter().chain(&STRICT).chain(&COUNTED).position(|&kind| kind == name)
 }

@@ -1,7 +1,7 @@
-//! The sample that the gate replays without coap-lite: some thousands of plain requests with coap-lite's answers, and
-//! those on which it is no judge with the answers of the documents.
+//! The sample that the gate replays without coap-lite: some thousands of plain requests with coap-lite's answers and the
+//! counts of zeros that are ours, and those on which it is no judge with the answers of the documents.
 
-use crate::{plain_answers, requests};
+use crate::{counts, plain_answers, requests};
 use std::fs;
 use std::io;
 use std::path::Path;
@@ -20,12 +20,13 @@ pub fn write(folder: &Path) -> io::Result<()> {
     fs::write(folder.join("stdout"), answers)
 }
 
-/// Short plain requests that coap-lite answers, with its answers.
+/// Short plain requests that coap-lite answers, with its answers and the counts of zeros.
 fn plain() -> io::Result<Vec<(String, String)>> {
     let mut requests = Vec::new();
     requests::plain(SEED, LOOKED_AT, &mut requests)?;
     let requests = String::from_utf8(requests).map_err(io::Error::other)?;
     let short = requests.lines().filter(|line| line.len() <= LONGEST);
     let pairs = short.map(|line| (line.to_string(), plain_answers::answer(line.as_bytes())));
-    Ok(pairs.filter(|(_, answer)| answer != "panic" && answer.len() <= LONGEST).collect())
+    let pairs = pairs.filter(|(_, answer)| answer != "panic" && answer.len() <= LONGEST);
+    Ok(pairs.map(|(line, answer)| (line.clone(), counts::put_in(line.as_bytes(), answer))).collect())
 }

@@ -1,10 +1,11 @@
-//! The answers that coap-lite can't give: strict messages and blocks here, the register in a file of its own. They are the
-//! rules written a second time, straight from the documents: "01" is the scope of work, which has the numbers of the
+//! The answers that coap-lite can't give, or not all of them: strict messages and blocks here, the register and uints in
+//! files of their own. They are the rules written a second time, straight from the documents: "01" is the scope of work, which has the numbers of the
 //! refusals and their order, and a section is one of RFC 7252 unless another is named. Names of code bytes alone are
 //! coap-lite's.
 
-use crate::register;
+use crate::uints::Uint;
 use crate::words::{hex, kind, kind_number, number, yes, Parts, Words, DEFAULT_LIMIT, LONGEST_LINE, MOST_ROOM};
+use crate::{counts, plain_answers, register, uints};
 use coap_lite::MessageClass;
 
 /// 01, What a packet is here: the most bytes of a datagram or a store, and the most options.
@@ -18,7 +19,7 @@ const LARGEST_BLOCK_NUMBER: u64 = 0xf_ffff;
 /// What is asked for, or the number of a refusal.
 pub type Judged<T> = Result<T, u8>;
 
-fn demand(holds: bool, refusal: u8) -> Judged<()> {
+pub fn demand(holds: bool, refusal: u8) -> Judged<()> {
     holds.then_some(()).ok_or(refusal)
 }
 
@@ -39,18 +40,27 @@ fn answer_request(line: &[u8]) -> Option<Judged<String>> {
         b"read-strict" => read(&words.bytes()?).map(|packet| packet.shown()),
         b"write-strict" => write(limit(words.word()?)?, words.number(MOST_ROOM)?, &words.parts()?),
         b"block-new-strict" => block_new(words.number(u64::MAX)?, words.flag()?, words.number(u64::MAX)?),
+        b"block-read" => plain_block_read(&words.bytes()?),
         b"block-read-strict" => block_read(&words.bytes()?),
         b"block-write-strict" => {
             let (room, number) = (words.number(MOST_ROOM)?, words.number(u32::MAX.into())?);
             block_write(room, number, words.flag()?, words.byte()?)
         }
         b"block-size-strict" => block_size(words.byte()?).map(|size| format!("size {size}")),
+        b"uint-read" => uints::shown(width(words.word()?)?, &words.bytes()?),
+        b"to-uint" => uints::shown(words.number(u64::MAX)?, &words.bytes()?),
+        // of a script, the counts alone are ours
+        b"edit" => return Some(Ok(counts::put_in(line, plain_answers::answer(line)))),
         b"register" => register::check(&words.parts()?),
         b"properties" => Ok(register::properties(words.option_number()?).map(yes).join(" ")),
         _ => return None,
     };
     words.end()?;
     Some(answer)
+}
+
+fn width(word: &[u8]) -> Option<u64> {
+    number(word, 8).filter(|width| matches!(width, 1 | 2 | 4 | 8))
 }
 
 /// 12 is the last refusal of every order.
@@ -197,13 +207,21 @@ fn block_new(number: u64, more: bool, size: u64) -> Judged<String> {
     Ok(format!("block {number} {} {exponent}", u8::from(more)))
 }
 
-/// 01, Blocks: 13, then 14. The value is a uint (3.2), whose low four bits are M and SZX.
+/// 01, Blocks: 13, then 14, of up to 3 bytes.
 fn block_read(value: &[u8]) -> Judged<String> {
-    demand(value.len() <= 3, 13)?;
-    let uint = value.iter().fold(0, |uint, &byte| uint << 8 | u64::from(byte));
-    let exponent = (uint & 7) as u8;
-    block_size(exponent)?;
-    Ok(format!("block {} {} {exponent}", uint >> 4, uint >> 3 & 1))
+    let uint = uints::read(3, value)?;
+    block_size((uint.number & 7) as u8)?;
+    Ok(block_shown(&uint))
+}
+
+/// 01, Blocks: of up to 2 bytes, and with any exponent.
+fn plain_block_read(value: &[u8]) -> Judged<String> {
+    Ok(block_shown(&uints::read(2, value)?))
+}
+
+/// The low four bits of the value, a uint (3.2), are M and SZX.
+fn block_shown(uint: &Uint) -> String {
+    format!("block {} {} {} zeros {}", uint.number >> 4, uint.number >> 3 & 1, uint.number & 7, uint.zeros)
 }
 
 /// 01, Blocks: 14, 17, then 12. 3.2: a uint has no leading zero bytes.
@@ -211,6 +229,5 @@ fn block_write(room: u64, number: u64, more: bool, exponent: u8) -> Judged<Strin
     block_size(exponent)?;
     demand(number <= LARGEST_BLOCK_NUMBER, 17)?;
     let uint = number << 4 | u64::from(more) << 3 | u64::from(exponent);
-    let bytes: Vec<u8> = uint.to_be_bytes().into_iter().skip_while(|&byte| byte == 0).collect();
-    written(&bytes, room)
+    written(&uints::shortest(uint), room)
 }

@@ -203,7 +203,7 @@ pub fn yes(is: bool) -> String {
 }
 
 /// `NUMBER:HEX` with commas between, or `-`.
-fn options(word: &[u8]) -> Option<Vec<(u16, Vec<u8>)>> {
+pub fn options(word: &[u8]) -> Option<Vec<(u16, Vec<u8>)>> {
     if word == b"-" {
         return Some(Vec::new());
     }

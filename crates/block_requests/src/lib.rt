@@ -1,5 +1,6 @@
 // Requests on block values, each in a plain and a strict form.
 use block_value::BlockBuilt;
+use block_value::BlockRead;
 use block_value::BlockSize;
 use block_value::BlockValue;
 use refusal::Written;
@@ -45,15 +46,26 @@ pub fn answer(name: Named, line: &[u8], store: &mut [u8], room: &mut [u8]) -> To
     }
 }
 
-fn tell(built: BlockBuilt) -> Told {
+fn tell(block: BlockValue) -> Told {
+    Told::three(
+        BLOCK,
+        block.num as u64,
+        block.more as u64,
+        block.size_exponent as u64,
+    )
+}
+
+fn tell_built(built: BlockBuilt) -> Told {
     match built {
         BlockBuilt::Refused(why) => Told::refused(why),
-        BlockBuilt::Block(block) => Told::three(
-            BLOCK,
-            block.num as u64,
-            block.more as u64,
-            block.size_exponent as u64,
-        ),
+        BlockBuilt::Block(block) => tell(block),
+    }
+}
+
+fn tell_read(read: BlockRead) -> Told {
+    match read {
+        BlockRead::Refused(why) => Told::refused(why),
+        BlockRead::Block { block, zeros } => tell(block).padded(zeros),
     }
 }
 
@@ -66,9 +78,9 @@ fn block_new(strict: bool, numbers: Numbers) -> Told {
     let more = numbers.second == 1;
     let size = numbers.third as usize;
     if strict {
-        return tell(BlockValue::new_strict(num, more, size));
+        return tell_built(BlockValue::new_strict(num, more, size));
     }
-    tell(BlockValue::new(num, more, size))
+    tell_built(BlockValue::new(num, more, size))
 }
 
 // block-read HEX
@@ -77,9 +89,9 @@ fn block_read(strict: bool, value: Value, bytes: &[u8]) -> Told {
         return Told::no_request();
     }
     if strict {
-        return tell(BlockValue::try_from_strict(bytes));
+        return tell_read(BlockValue::try_from_strict(bytes));
     }
-    tell(BlockValue::try_from(bytes))
+    tell_read(BlockValue::try_from(bytes))
 }
 
 // block-write ROOM NUMBER MORE EXPONENT

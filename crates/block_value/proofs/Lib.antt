@@ -3,5 +3,5 @@ pub mod Sizes
 pub mod Distinct
 pub mod PlainLaws
 pub mod StrictLaws
-mod Readings
+mod Padding
 mod Examples

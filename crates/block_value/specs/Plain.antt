@@ -1,13 +1,16 @@
 -- Plain block values.
 use Prim.Native.Nat.{ℕ, _%_}
+use mathlib.Core.Path.{_≡_}
 use mathlib.Core.Bool.{Bool}
 use mathlib.Core.List.{List}
 use lib.Dec.{eqb, ltb}
-use lib.ListN.{length}
 use Rattle.ground.specs.Choice.{pick, either}
-use Rattle.rfc.specs.Uint.{number, uint}
-use Rattle.rfc.specs.Block.{Block, blockNumber, blockOf}
-use Rattle.refusal.specs.Answer.{Answer, given, refused, fitted}
+use Rattle.rfc.specs.Uint.{uint}
+use Rattle.rfc.specs.Block.{Block, blockNumber}
+use Rattle.refusal.specs.Answer.{Answer, given, refused, onward, fitted}
+use Rattle.option_value.specs.Uint.{Padded, readUint}
+use Rattle.block_value.specs.Answers.{blockIn, blockRead}
+use Rattle.block_value.specs.declared.BlockRead.{BlockRead}
 use Rattle.block_value.specs.Size.{exponentOf}
 
 -- Building: size 0, or 4096 and over, is BadBlockSize (14); then a number over 65535 is BlockNumber (17).
@@ -28,6 +31,10 @@ plainBytes b = uint 2 (blockNumber (kept b))
 abbrev pub plainWriting : ℕ → Block → Answer ℕ
 plainWriting room b = fitted room (plainBytes b)
 
--- Reading: more than 2 bytes are BadUint (13).
-unfoldable pub plainReading : List ℕ → Answer Block
-plainReading bytes = pick (ltb 2 (length bytes)) (refused 13) (given (blockOf (number bytes)))
+-- Reading: a uint of at most 2 bytes, else BadUint (13), and the block of its number.
+unfoldable pub plainReading : List ℕ → Answer (Padded Block)
+plainReading bytes = onward (readUint 2 bytes) (λ p. given (blockIn p))
+
+-- The promise of the plain reader.
+abbrev pub ReadsPlain : List ℕ → BlockRead → Type 0
+ReadsPlain bytes r = blockRead r ≡ plainReading bytes

@@ -1,14 +1,16 @@
 -- Strict block values: RFC 7959, section 2.2.
 use Prim.Native.Nat.{ℕ}
+use mathlib.Core.Path.{_≡_}
 use mathlib.Core.Bool.{Bool}
 use mathlib.Core.List.{List, [], _∷_}
 use lib.Dec.{eqb, ltb}
-use lib.ListN.{length}
 use Rattle.ground.specs.Choice.{pick}
 use Rattle.ground.specs.Table.{listed}
-use Rattle.rfc.specs.Uint.{number}
-use Rattle.rfc.specs.Block.{Block, blockOf, blockBytes}
-use Rattle.refusal.specs.Answer.{Answer, given, refused, fitted}
+use Rattle.rfc.specs.Block.{Block, blockBytes}
+use Rattle.refusal.specs.Answer.{Answer, given, refused, onward, fitted}
+use Rattle.option_value.specs.Uint.{Padded, readUint}
+use Rattle.block_value.specs.Answers.{blockIn, blockRead}
+use Rattle.block_value.specs.declared.BlockRead.{BlockRead}
 use Rattle.block_value.specs.Size.{exponentOf}
 
 -- The sizes of a block: those of SZX 0 to 6.
@@ -28,8 +30,14 @@ strictWriting room b =
     pick (ltb 6 (b .szx)) (refused 14)
     (pick (ltb 1048575 (b .num)) (refused 17) (fitted room (blockBytes b)))
 
--- Reading: more than 3 bytes are BadUint (13); then SZX 7, which is reserved, is BadBlockSize (14).
-unfoldable pub strictReading : List ℕ → Answer Block
-strictReading bytes =
-    pick (ltb 3 (length bytes)) (refused 13)
-    (pick (eqb (blockOf (number bytes) .szx) 7) (refused 14) (given (blockOf (number bytes))))
+-- SZX 7 is reserved: BadBlockSize (14).
+abbrev pub unreserved : Padded Block → Answer (Padded Block)
+unreserved p = pick (eqb (p .value .szx) 7) (refused 14) (given p)
+
+-- Reading: a uint of at most 3 bytes, else BadUint (13), and the block of its number, unless its SZX is reserved.
+unfoldable pub strictReading : List ℕ → Answer (Padded Block)
+strictReading bytes = onward (readUint 3 bytes) (λ p. unreserved (blockIn p))
+
+-- The promise of the strict reader.
+abbrev pub ReadsStrict : List ℕ → BlockRead → Type 0
+ReadsStrict bytes r = blockRead r ≡ strictReading bytes

@@ -13,8 +13,8 @@ ghost use Rattle.ground.specs.Table.{listed};
 ghost use Rattle.refusal.specs.Answer.{written, after};
 ghost use Rattle.block_value.specs.Answers.{meant, built, sized};
 ghost use Rattle.block_value.specs.Size.{Floor, exponentOf, sizeUpTo};
-ghost use Rattle.block_value.specs.Plain.{plainNew, plainBytes, plainWriting, plainReading};
-ghost use Rattle.block_value.specs.Strict.{strictSizes, strictNew, strictWriting, strictReading};
+ghost use Rattle.block_value.specs.Plain.{plainNew, plainBytes, plainWriting, ReadsPlain};
+ghost use Rattle.block_value.specs.Strict.{strictSizes, strictNew, strictWriting, ReadsStrict};
 
 // The block option value. A strict number has 20 bits, a plain one at most 16.
 pub struct BlockValue {
@@ -23,9 +23,15 @@ pub struct BlockValue {
     pub size_exponent: u8,
 }
 
-// A block that was built or read; or why there is none.
+// A block that was built; or why there is none.
 pub enum BlockBuilt {
     Block(BlockValue),
+    Refused(Refusal),
+}
+
+// A block that was read, and how many leading zero bytes its value has; or why there is none.
+pub enum BlockRead {
+    Block { block: BlockValue, zeros: usize },
     Refused(Refusal),
 }
 
@@ -80,12 +86,15 @@ impl BlockValue {
     }
 
     // Reads a plain value.
-    pub fn try_from(value: &[u8]) -> BlockBuilt
-        ensures { λ r. ⌜ built r ≡ plainReading (now (value .entry)) ⌝ }
+    pub fn try_from(value: &[u8]) -> BlockRead
+        ensures { λ r. ⌜ ReadsPlain (now (value .entry)) r ⌝ }
     {
         match option_to_uint(value, 2) {
-            Uint::Number(scalar) => BlockBuilt::Block(block_of(scalar as u32)),
-            Uint::Refused(why) => BlockBuilt::Refused(why),
+            Uint::Number { number, zeros } => BlockRead::Block {
+                block: block_of(number as u32),
+                zeros,
+            },
+            Uint::Refused(why) => BlockRead::Refused(why),
         }
     }
 
@@ -128,18 +137,18 @@ impl BlockValue {
     }
 
     // Reads a strict value.
-    pub fn try_from_strict(value: &[u8]) -> BlockBuilt
-        ensures { λ r. ⌜ built r ≡ strictReading (now (value .entry)) ⌝ }
+    pub fn try_from_strict(value: &[u8]) -> BlockRead
+        ensures { λ r. ⌜ ReadsStrict (now (value .entry)) r ⌝ }
     {
         match option_to_uint(value, 3) {
-            Uint::Number(scalar) => {
-                let block = block_of(scalar as u32);
+            Uint::Number { number, zeros } => {
+                let block = block_of(number as u32);
                 if block.size_exponent == 7 {
-                    return BlockBuilt::Refused(Refusal::BadBlockSize);
+                    return BlockRead::Refused(Refusal::BadBlockSize);
                 }
-                BlockBuilt::Block(block)
+                BlockRead::Block { block, zeros }
             }
-            Uint::Refused(why) => BlockBuilt::Refused(why),
+            Uint::Refused(why) => BlockRead::Refused(why),
         }
     }
 }

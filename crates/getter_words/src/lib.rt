@@ -8,6 +8,7 @@ use packet_words::Reply;
 use packet_words::put_separator;
 use placing::put_byte;
 use placing::put_bytes;
+use telling::put_zeros;
 use typed_options::ContentFormat;
 use typed_options::Observe;
 use words::NOWHERE;
@@ -33,15 +34,24 @@ pub fn put_getters(
 
 fn put_format(out: &mut [u8], place: usize, format: ContentFormat) -> usize {
     match format {
-        ContentFormat::Format(number) => put_number(out, place, b" format ", number as u64),
-        ContentFormat::None => put_bytes(out, place, b" format none"),
+        ContentFormat::Format { format, zeros } => {
+            let next = put_number(out, place, b" format ", format as u64);
+            put_zeros(out, next, zeros)
+        }
+        ContentFormat::None { zeros } => {
+            let next = put_bytes(out, place, b" format none");
+            put_zeros(out, next, zeros)
+        }
     }
 }
 
 fn put_observe(out: &mut [u8], place: usize, observe: Observe) -> usize {
     match observe {
-        Observe::Value(number) => put_number(out, place, b" observe ", number as u64),
-        Observe::None => put_bytes(out, place, b" observe none"),
+        Observe::Value { value, zeros } => {
+            let next = put_number(out, place, b" observe ", value as u64);
+            put_zeros(out, next, zeros)
+        }
+        Observe::None => put_bytes(out, place, b" observe none zeros 0"),
         Observe::Refused(why) => {
             put_number(out, place, b" observe refused ", why.number() as u64)
         }

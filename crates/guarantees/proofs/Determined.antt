@@ -7,7 +7,7 @@ use Rattle.decimal.specs.declared.Decimal.the-variants.{Value, Bad}
 use Rattle.code_text.proofs.CodeText.{one-code}
 use Rattle.option_value.proofs.Distinct.{one-uint, one-u8, one-u16, one-u32, one-u64, one-text}
 use Rattle.header.proofs.Raw.{one-raw, one-setting}
-use Rattle.block_value.proofs.Distinct.{one-built, one-sized}
+use Rattle.block_value.proofs.Distinct.{one-built, one-block-read, one-sized}
 use Rattle.judging.proofs.Good.{one-judged}
 use Rattle.option_reading.specs.Answers.{foundOf}
 use Rattle.option_reading.specs.declared.Found.the-variants.{End, Option, Refused}
@@ -66,6 +66,7 @@ told =
       raw-headers = one-raw;
       codes = one-setting;
       blocks = one-built;
+      blocks-read = one-block-read;
       block-sizes = one-sized;
       judgements = one-judged;
       places = one-place;

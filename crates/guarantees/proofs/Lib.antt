@@ -6,4 +6,5 @@ pub mod StrictReading
 pub mod StrictWriting
 pub mod RoundTrips
 pub mod Register
+pub mod Padded
 pub mod Samples

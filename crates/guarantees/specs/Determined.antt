@@ -7,7 +7,7 @@ use Rattle.code_text.specs.CodeText.{codeOf}
 use Rattle.option_value.specs.Uint.{uintOf, readU8, readU16, readU32, readU64}
 use Rattle.option_value.specs.Text.{textOf}
 use Rattle.header.specs.Header.{rawRead, settingOf}
-use Rattle.block_value.specs.Answers.{built, sized}
+use Rattle.block_value.specs.Answers.{built, blockRead, sized}
 use Rattle.judging.specs.Judge.{judged}
 use Rattle.option_reading.specs.Answers.{foundOf}
 use Rattle.reading.specs.Reading.{decoded}
@@ -39,6 +39,7 @@ pub record Told : Type 0 where
   pub raw-headers : TellsApart rawRead
   pub codes : TellsApart settingOf
   pub blocks : TellsApart built
+  pub blocks-read : TellsApart blockRead
   pub block-sizes : TellsApart sized
   pub judgements : TellsApart judged
   pub places : TellsApart foundOf

@@ -6,3 +6,4 @@ pub mod StrictReading
 pub mod StrictWriting
 pub mod RoundTrips
 pub mod Register
+pub mod Padded

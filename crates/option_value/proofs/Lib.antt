@@ -1,3 +1,4 @@
+pub mod Padding
 pub mod Uints
 pub mod Texts
 pub mod Distinct

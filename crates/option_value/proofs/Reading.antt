@@ -1,6 +1,6 @@
 -- The loop that reads a number byte by byte.
-use Prim.Native.Nat.{ℕ, _+_, _*_, _^_, _<_, _≤_}
-use mathlib.Core.Path.{_≡_, refl}
+use Prim.Native.Nat.{ℕ, _+_, _-_, _*_, _^_, _<_, _≤_}
+use mathlib.Core.Path.{_≡_, refl, ap, _∙_}
 use mathlib.Core.List.{List}
 use native.Mathlib.Nat.{pow-suc, pow-le-pow-right, lt-of-lt-of-le}
 use native.Mathlib.Numerals.{add-one}
@@ -8,7 +8,10 @@ use native.Mathlib.Omega.{arith}
 use lib.Dec.{lit<}
 use lib.ListN.{length, getD, drop, drop-of-length-le}
 use lib.Seq.{drop-cons}
-use Rattle.rfc.specs.Uint.{number, numberFrom}
+use Rattle.ground.specs.Part.{Bytes}
+use Rattle.rfc.specs.Uint.{number, numberFrom, uint}
+use Rattle.option_value.specs.Uint.{Padded, withZeros, leadingZeros, padded}
+use Rattle.option_value.proofs.Padding.{pads, pads-length}
 
 -- The first `i` bytes make `value`; with the rest they make the number.
 pub record Reading (bs : List ℕ) (value i : ℕ) : Type 0 where
@@ -33,5 +36,15 @@ reading-turn {bs} {value} {i} h small s =
       all = rw add-one (rw (drop-cons bs i 0 h) at (s .all));
     }
 
-pub reading-end : {bs : List ℕ} {value i : ℕ} → length bs ≤ i → Reading bs value i → value ≡ number bs
-reading-end {bs} h s = rw (drop-of-length-le bs h) at (s .all)
+-- At the end the number is read, and its shortest bytes are those that aren't leading zeros.
+pub record Done (bs : List ℕ) (value count : ℕ) : Type 0 where
+  pub fits : count ≤ length bs
+  pub read : _≡_ {A = Padded ℕ} (withZeros (length bs - count) value) (padded bs)
+
+pub reading-end : {bs : List ℕ} {value i count : ℕ} → Bytes bs → length bs ≤ 8 → length bs ≤ i → Reading bs value i → count ≡ length (uint 8 value) → Done bs value count
+reading-end {bs} {value} {i} {count} b w h s e =
+    let v : value ≡ number bs = rw (drop-of-length-le bs h) at (s .all) in
+    let c : count ≡ length (uint 8 (number bs)) = e ∙ ap (λ (n : ℕ). length (uint 8 n)) v in
+    let l : length bs ≡ leadingZeros bs + length (uint 8 (number bs)) = pads-length (pads 8 bs b w) in
+    let z : length bs - count ≡ leadingZeros bs = omega arith in
+    record { fits = omega arith; read = λ j. withZeros (z j) (v j) }

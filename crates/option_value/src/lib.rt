@@ -9,12 +9,13 @@ ghost use mathlib.Core.Path.{_≡_};
 ghost use lib.ListN.{length};
 ghost use Rattle.rfc.specs.Uint.{uint};
 ghost use Rattle.refusal.specs.Answer.{written, fitted, after};
-ghost use Rattle.option_value.specs.Uint.{readUint, uintOf, readU8, readU16, readU32, readU64};
+ghost use Rattle.option_value.specs.Uint.{ReadsUint, uintOf, readU8, readU16, readU32, readU64};
 ghost use Rattle.option_value.specs.Text.{readText, textPart, writeText, textOf};
 
-// What reading a uint answers: every reader of a uint goes through this type.
+// What reading a uint answers: the number, and how many leading zero bytes were read. Every reader of a uint goes through
+// this type.
 pub enum Uint {
-    Number(u64),
+    Number { number: u64, zeros: usize },
     Refused(Refusal),
 }
 
@@ -29,9 +30,10 @@ pub fn option_from_uint(value: u64, out: &mut [u8]) -> Written
     Written::Length(put_uint(out, 0, value))
 }
 
-// Reads a value of at most `value_size` bytes, and never more than 8. Leading zeros are read, and count as bytes.
+// Reads a value of at most `value_size` bytes, and never more than 8. Leading zeros are read, and count as bytes: they are
+// what the value has besides the shortest bytes of its number.
 pub fn option_to_uint(encoded: &[u8], value_size: usize) -> Uint
-    ensures { λ r. ⌜ uintOf r ≡ readUint «value_size» (now (encoded .entry)) ⌝ }
+    ensures { λ r. ⌜ ReadsUint «value_size» (now (encoded .entry)) (uintOf r) ⌝ }
 {
     if value_size < encoded.len() {
         return Uint::Refused(Refusal::BadUint);
@@ -45,14 +47,18 @@ pub fn option_to_uint(encoded: &[u8], value_size: usize) -> Uint
         value = value * 256 + encoded[i] as u64;
         i = i + 1;
     }
-    Uint::Number(value)
+    let zeros = encoded.len() - uint_length(value);
+    Uint::Number {
+        number: value,
+        zeros,
+    }
 }
 
 // A uint of at most 1 byte.
 pub struct OptionValueU8(pub u8);
 
 pub enum ReadU8 {
-    Value(OptionValueU8),
+    Value { value: OptionValueU8, zeros: usize },
     Refused(Refusal),
 }
 
@@ -65,12 +71,15 @@ impl OptionValueU8 {
         option_from_uint(self.0 as u64, out)
     }
 
-    // Reads a value that is no longer than the width; leading zeros are read.
+    // Reads a value that is no longer than the width; leading zeros are read and counted.
     pub fn try_from(value: &[u8]) -> ReadU8
-        ensures { λ r. ⌜ readU8 r ≡ readUint 1 (now (value .entry)) ⌝ }
+        ensures { λ r. ⌜ ReadsUint 1 (now (value .entry)) (readU8 r) ⌝ }
     {
         match option_to_uint(value, 1) {
-            Uint::Number(number) => ReadU8::Value(OptionValueU8(number as u8)),
+            Uint::Number { number, zeros } => ReadU8::Value {
+                value: OptionValueU8(number as u8),
+                zeros,
+            },
             Uint::Refused(why) => ReadU8::Refused(why),
         }
     }
@@ -80,7 +89,7 @@ impl OptionValueU8 {
 pub struct OptionValueU16(pub u16);
 
 pub enum ReadU16 {
-    Value(OptionValueU16),
+    Value { value: OptionValueU16, zeros: usize },
     Refused(Refusal),
 }
 
@@ -93,12 +102,15 @@ impl OptionValueU16 {
         option_from_uint(self.0 as u64, out)
     }
 
-    // Reads a value that is no longer than the width; leading zeros are read.
+    // Reads a value that is no longer than the width; leading zeros are read and counted.
     pub fn try_from(value: &[u8]) -> ReadU16
-        ensures { λ r. ⌜ readU16 r ≡ readUint 2 (now (value .entry)) ⌝ }
+        ensures { λ r. ⌜ ReadsUint 2 (now (value .entry)) (readU16 r) ⌝ }
     {
         match option_to_uint(value, 2) {
-            Uint::Number(number) => ReadU16::Value(OptionValueU16(number as u16)),
+            Uint::Number { number, zeros } => ReadU16::Value {
+                value: OptionValueU16(number as u16),
+                zeros,
+            },
             Uint::Refused(why) => ReadU16::Refused(why),
         }
     }
@@ -108,7 +120,7 @@ impl OptionValueU16 {
 pub struct OptionValueU32(pub u32);
 
 pub enum ReadU32 {
-    Value(OptionValueU32),
+    Value { value: OptionValueU32, zeros: usize },
     Refused(Refusal),
 }
 
@@ -121,12 +133,15 @@ impl OptionValueU32 {
         option_from_uint(self.0 as u64, out)
     }
 
-    // Reads a value that is no longer than the width; leading zeros are read.
+    // Reads a value that is no longer than the width; leading zeros are read and counted.
     pub fn try_from(value: &[u8]) -> ReadU32
-        ensures { λ r. ⌜ readU32 r ≡ readUint 4 (now (value .entry)) ⌝ }
+        ensures { λ r. ⌜ ReadsUint 4 (now (value .entry)) (readU32 r) ⌝ }
     {
         match option_to_uint(value, 4) {
-            Uint::Number(number) => ReadU32::Value(OptionValueU32(number as u32)),
+            Uint::Number { number, zeros } => ReadU32::Value {
+                value: OptionValueU32(number as u32),
+                zeros,
+            },
             Uint::Refused(why) => ReadU32::Refused(why),
         }
     }
@@ -136,7 +151,7 @@ impl OptionValueU32 {
 pub struct OptionValueU64(pub u64);
 
 pub enum ReadU64 {
-    Value(OptionValueU64),
+    Value { value: OptionValueU64, zeros: usize },
     Refused(Refusal),
 }
 
@@ -149,12 +164,15 @@ impl OptionValueU64 {
         option_from_uint(self.0, out)
     }
 
-    // Reads a value that is no longer than the width; leading zeros are read.
+    // Reads a value that is no longer than the width; leading zeros are read and counted.
     pub fn try_from(value: &[u8]) -> ReadU64
-        ensures { λ r. ⌜ readU64 r ≡ readUint 8 (now (value .entry)) ⌝ }
+        ensures { λ r. ⌜ ReadsUint 8 (now (value .entry)) (readU64 r) ⌝ }
     {
         match option_to_uint(value, 8) {
-            Uint::Number(number) => ReadU64::Value(OptionValueU64(number)),
+            Uint::Number { number, zeros } => ReadU64::Value {
+                value: OptionValueU64(number),
+                zeros,
+            },
             Uint::Refused(why) => ReadU64::Refused(why),
         }
     }

@@ -66,6 +66,8 @@ const NOTHING: usize = 30;
 // What comes after the numbers of an answer.
 pub enum Tail {
     Nothing,
+    // How many leading zero bytes a value has.
+    Zeros(usize),
     Class(MessageClass),
     // A class and a message id.
     Message { class: MessageClass, id: u16 },
@@ -196,6 +198,18 @@ impl Told {
         }
     }
 
+    // The same numbers, which were read from a value with so many leading zero bytes.
+    pub fn padded(self, zeros: usize) -> Told {
+        let numbers = self.numbers;
+        Told {
+            word: self.word,
+            count: self.count,
+            numbers,
+            tail: Tail::Zeros(zeros),
+            last: NOTHING,
+        }
+    }
+
     // The same answer, which says at its end whether lent bytes are as they came.
     pub fn ending(self, kept: bool) -> Told {
         let numbers = self.numbers;
@@ -258,6 +272,7 @@ fn put_numbers(out: &mut [u8], place: usize, numbers: [u64; 4], count: usize) ->
 fn put_tail(out: &mut [u8], place: usize, tail: Tail, store: &[u8], output: &[u8]) -> usize {
     match tail {
         Tail::Nothing => place,
+        Tail::Zeros(zeros) => put_zeros(out, place, zeros),
         Tail::Class(class) => put_word_of(out, place, class),
         Tail::Message { class, id } => {
             let next = put_word_of(out, place, class);
@@ -268,6 +283,12 @@ fn put_tail(out: &mut [u8], place: usize, tail: Tail, store: &[u8], output: &[u8
         Tail::Written(length) => put_value(out, place, part(output, 0, length)),
         Tail::Letters(length) => put_letters(out, place, part(output, 0, length)),
     }
+}
+
+// Puts how many leading zero bytes a value has.
+pub fn put_zeros(out: &mut [u8], place: usize, zeros: usize) -> usize {
+    let next = put_bytes(out, place, b" zeros ");
+    put_decimal(out, next, zeros as u64)
 }
 
 fn put_word_of(out: &mut [u8], place: usize, class: MessageClass) -> usize {

@@ -1,11 +1,11 @@
 -- Setters and getters computed by the definitions, so that a slip in a definition shows.
-use Prim.Native.Nat.{ℕ}
+use Prim.Native.Nat.{ℕ, _+_}
 use mathlib.Core.Path.{_≡_, refl}
 use mathlib.Core.List.{List, [], _∷_, _++_}
 use lib.ListN.{replicate}
 use Rattle.rfc.specs.Uint.{uint}
 use Rattle.refusal.specs.Answer.{given, refused, after}
-use Rattle.option_value.specs.Uint.{readUint}
+use Rattle.option_value.specs.Uint.{withZeros, readUint}
 use Rattle.tables.specs.Numbers.{contentFormats}
 use Rattle.packet.specs.Packet.{newPacket, bytesIn}
 use Rattle.packet.specs.declared.Packet.{Packet}
@@ -36,13 +36,33 @@ zeros : (formatSet (7 ∷ []) 1 newPacket 0 ≡ given (withRecords newPacket (re
 unfolding formatSet added newPacket uint
 zeros = (refl, refl)
 
--- A content format is added: after 60 and then 50 it reads 60. An unlisted one and an over-long one read as none, Observe's 0 as a number.
+-- A content format is added: after 60 and then 50 it reads 60.
 formats : (formatSet (60 ∷ 0 ∷ []) 1 (withRecords newPacket (at 12 0 ∷ [])) 50 ≡ given (withRecords newPacket (at 12 0 ∷ at 12 1 ∷ [])))
     × (after (given (tt {0})) 1 (uint 2 50) (60 ∷ 0 ∷ []) ≡ (60 ∷ 50 ∷ []))
-    × (formatIn (60 ∷ 50 ∷ []) (withRecords newPacket (at 12 0 ∷ at 12 1 ∷ [])) ≡ Format 60)
-    × (formatIn (1 ∷ []) (withRecords newPacket (at 12 0 ∷ [])) ≡ None)
-    × (formatIn (0 ∷ 0 ∷ 0 ∷ []) (withRecords newPacket (recordOf 12 (record { start = 0; len = 3 }) ∷ [])) ≡ None)
-    × (observeIn [] (withRecords newPacket (recordOf 6 (record { start = 0; len = 0 }) ∷ [])) ≡ given (number 0))
-    × (observeIn (0 ∷ 0 ∷ 0 ∷ 0 ∷ 0 ∷ []) (withRecords newPacket (recordOf 6 (record { start = 0; len = 5 }) ∷ [])) ≡ refused 13)
-unfolding formatSet added formatIn observeIn newPacket readUint bytesIn contentFormats uint at
-formats = (refl, refl, refl, refl, refl, refl, refl)
+    × (formatIn (60 ∷ 50 ∷ []) (withRecords newPacket (at 12 0 ∷ at 12 1 ∷ [])) ≡ Format 60 0)
+unfolding formatSet added formatIn newPacket readUint bytesIn contentFormats uint at
+formats = (refl, refl, refl)
+
+-- Records of one number, whose values have these lengths and stand one after the other.
+sized : ℕ → ℕ → List ℕ → List OptionRecord
+sized n start [] = []
+sized n start (l ∷ ls) = recordOf n (record { start = start; len = l }) ∷ sized n (start + l) ls
+
+-- Content formats: an unlisted one reads as none with its zeros, an over-long one as none with no zeros, and the first decides
+-- the number and the zeros.
+format-zeros : (formatIn (0 ∷ 60 ∷ 60 ∷ []) (withRecords newPacket (sized 12 0 (2 ∷ 1 ∷ []))) ≡ Format 60 1)
+    × (formatIn (60 ∷ 0 ∷ 60 ∷ []) (withRecords newPacket (sized 12 0 (1 ∷ 2 ∷ []))) ≡ Format 60 0)
+    × (formatIn (0 ∷ 1 ∷ []) (withRecords newPacket (sized 12 0 (2 ∷ []))) ≡ None 1)
+    × (formatIn (0 ∷ 0 ∷ 60 ∷ []) (withRecords newPacket (sized 12 0 (3 ∷ []))) ≡ None 0)
+    × (formatIn (0 ∷ 0 ∷ 0 ∷ []) (withRecords newPacket (sized 12 0 (3 ∷ []))) ≡ None 0)
+    × (formatIn [] newPacket ≡ None 0)
+unfolding formatIn newPacket readUint bytesIn contentFormats sized
+format-zeros = (refl, refl, refl, refl, refl, refl)
+
+-- Observe: an empty value is the number 0, five bytes are refused, and the first value decides here too.
+observe-zeros : (observeIn [] (withRecords newPacket (sized 6 0 (0 ∷ []))) ≡ given (number (withZeros 0 0)))
+    × (observeIn (0 ∷ 0 ∷ 0 ∷ 5 ∷ []) (withRecords newPacket (sized 6 0 (4 ∷ []))) ≡ given (number (withZeros 3 5)))
+    × (observeIn (0 ∷ 0 ∷ 0 ∷ 0 ∷ 0 ∷ []) (withRecords newPacket (sized 6 0 (5 ∷ []))) ≡ refused 13)
+    × (observeIn (5 ∷ 0 ∷ 5 ∷ []) (withRecords newPacket (sized 6 0 (1 ∷ 2 ∷ []))) ≡ given (number (withZeros 0 5)))
+unfolding observeIn newPacket readUint bytesIn sized
+observe-zeros = (refl, refl, refl, refl)

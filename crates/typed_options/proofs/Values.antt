@@ -7,6 +7,7 @@ use lib.ListN.{length}
 use lib.Seq.{sets}
 use Rattle.rfc.specs.Uint.{uint}
 use Rattle.refusal.specs.Answer.{given}
+use Rattle.option_value.specs.Uint.{withZeros}
 use Rattle.option_value.proofs.Uints.{written-then-read}
 use Rattle.packet.specs.Packet.{recordsOf, ofNumber}
 use Rattle.packet.specs.declared.Packet.{Packet}
@@ -39,7 +40,7 @@ module _ (old : List ℕ) (start n : ℕ) (p q : Packet) where
         ∙ (rw (own-bytes old start (uint 2 n) (s .inside)) (ap (λ m. optionAdded m 12 (uint 2 n)) (meaning-apart old start (uint 2 n) p u)))
 
     -- The first content format of a packet reads as itself, if it is listed; a later one changes nothing.
-    pub format-first : n < 65536 → ofNumber 12 (recordsOf p) ≡ [] → formatIn new q ≡ formatOf (given n)
+    pub format-first : n < 65536 → ofNumber 12 (recordsOf p) ≡ [] → formatIn new q ≡ formatOf (given (withZeros 0 n))
     unfolding formatIn
     format-first small z =
         let s = stored-format old start n p q e in
@@ -71,14 +72,14 @@ module _ (old : List ℕ) (start n : ℕ) (p q : Packet) where
         ∙ (rw (own-bytes old start (uint 4 n) (s .inside), token, payload, others) refl)
 
     -- What was set is read.
-    pub observe-set : n < 2 ^ 32 → observeIn then q ≡ given (number n)
+    pub observe-set : n < 2 ^ 32 → observeIn then q ≡ given (number (withZeros 0 n))
     unfolding observeIn
     observe-set small =
         let s = stored-observe old start n p q e in
         rw (set-values p q 6 (rangeAt start (uint 4 n) ∷ []) (s .made), own-bytes old start (uint 4 n) (s .inside), written-then-read 4 n (omega arith) small) refl
 
 -- A cleared content format or Observe reads as none.
-pub format-cleared : (s : List ℕ) (p q : Packet) → cleared p 12 ≡ given q → formatIn s q ≡ None
+pub format-cleared : (s : List ℕ) (p q : Packet) → cleared p 12 ≡ given q → formatIn s q ≡ None 0
 unfolding formatIn
 format-cleared s p q e = rw (cleared-values p q 12 e) refl
 

@@ -1,11 +1,12 @@
 -- What the getters of the content format and of Observe read: the first record of their number, as a uint.
 use Prim.Native.Nat.{ℕ}
+use mathlib.Core.Path.{_≡_}
 use mathlib.Core.List.{List, [], _∷_}
 use Rattle.ground.specs.Choice.{pick}
 use Rattle.ground.specs.Table.{listed}
 use Rattle.refusal.specs.Answer.{Answer, given, refused, onward}
 use Rattle.refusal.specs.Number.{numberOf}
-use Rattle.option_value.specs.Uint.{readUint}
+use Rattle.option_value.specs.Uint.{Padded, withZeros, readUint}
 use Rattle.tables.specs.Numbers.{contentFormats}
 use Rattle.packet.specs.Packet.{valueOf, recordsOf, ofNumber}
 use Rattle.packet.specs.declared.Packet.{Packet}
@@ -20,18 +21,23 @@ abbrev pub onFirst {ℓ} : {A : Type ℓ} → List OptionRecord → A → (Optio
 onFirst [] absent found = absent
 onFirst (r ∷ rs) absent found = found r
 
--- A content format is a number that is listed; an over-long value and an unlisted number read as none.
-abbrev pub formatOf : Answer ℕ → ContentFormat
-formatOf (given n) = pick (listed n contentFormats) (Format n) None
-formatOf (refused k) = None
+-- A content format is a number that is listed; an unlisted number reads as none, with its zeros beside it, and an over-long
+-- value as none with no zeros.
+abbrev pub formatOf : Answer (Padded ℕ) → ContentFormat
+formatOf (given n) = pick (listed (n .value) contentFormats) (Format (n .value) (n .zeros)) (None (n .zeros))
+formatOf (refused k) = None 0
 
--- The content format: the first record of number 12 counts, and an absent one reads as none.
+-- The content format: the first record of number 12 counts, and an absent one reads as none with no zeros.
 unfoldable pub formatIn : List ℕ → Packet → ContentFormat
-formatIn s p = onFirst (ofNumber 12 (recordsOf p)) None (λ r. formatOf (readUint 2 (valueOf s r)))
+formatIn s p = onFirst (ofNumber 12 (recordsOf p)) (None 0) (λ r. formatOf (readUint 2 (valueOf s r)))
 
--- A number that may be absent.
+-- The promise of the getter of the content format.
+abbrev pub GetsFormat : List ℕ → Packet → ContentFormat → Type 0
+GetsFormat s p r = r ≡ formatIn s p
+
+-- A number with its zeros, which may be absent.
 pub data Found : Type 0 where
-  number : ℕ → Found
+  number : Padded ℕ → Found
   absent : Found
 
 -- Observe: the first record of number 6 counts; it is absent, or a number, or over-long (13).
@@ -40,6 +46,10 @@ observeIn s p = onFirst (ofNumber 6 (recordsOf p)) (given absent) (λ r. onward 
 
 -- The answer of the getter of Observe.
 abbrev pub observed : Observe → Answer Found
-observed (Value n) = given (number n)
+observed (Value n z) = given (number (withZeros z n))
 observed Unset = given absent
 observed (Refused e) = refused (numberOf e)
+
+-- The promise of the getter of Observe.
+abbrev pub GetsObserve : List ℕ → Packet → Observe → Type 0
+GetsObserve s p r = observed r ≡ observeIn s p

@@ -18,7 +18,7 @@ ghost use mathlib.Core.Path.{_≡_};
 ghost use Rattle.rfc.specs.Uint.{uint};
 ghost use Rattle.refusal.specs.Answer.{answered};
 ghost use Rattle.splicing.specs.Edited.{edited};
-ghost use Rattle.typed_options.specs.Getters.{formatIn, observed, observeIn};
+ghost use Rattle.typed_options.specs.Getters.{GetsFormat, GetsObserve};
 ghost use Rattle.typed_options.specs.Setters.{Sets, storing, formatSet, observeSet};
 
 // Sets the content format: adds an option whose value is written into the store from a start.
@@ -31,26 +31,30 @@ pub fn set_content_format(packet: Packet, store: &mut [u8], start: u32, format: 
     put_value(packet, edit, store, start, value)
 }
 
-// The content format of a packet: a listed one, or none.
+// The content format of a packet: a listed one, or none. Beside either stands how many leading zero bytes were read, which
+// is 0 where there was no value, or one of more than two bytes.
 pub enum ContentFormat {
-    Format(u16),
-    None,
+    Format { format: u16, zeros: usize },
+    None { zeros: usize },
 }
 
 // Reads the content format; only the first counts.
 pub fn get_content_format(packet: Packet, store: &[u8]) -> ContentFormat
-    ensures { λ r. ⌜ r ≡ formatIn (now (store .entry)) packet ⌝ }
+    ensures { λ r. ⌜ GetsFormat (now (store .entry)) packet r ⌝ }
 {
     if !packet.has_option(option_number::CONTENT_FORMAT) {
-        return ContentFormat::None;
+        return ContentFormat::None { zeros: 0 };
     }
     match OptionValueU16::try_from(packet.get_first_option(store, option_number::CONTENT_FORMAT)) {
-        ReadU16::Refused(_) => ContentFormat::None,
-        ReadU16::Value(value) => {
+        ReadU16::Refused(_) => ContentFormat::None { zeros: 0 },
+        ReadU16::Value { value, zeros } => {
             if tables::is_content_format(value.0) {
-                ContentFormat::Format(value.0)
+                ContentFormat::Format {
+                    format: value.0,
+                    zeros,
+                }
             } else {
-                ContentFormat::None
+                ContentFormat::None { zeros }
             }
         }
     }
@@ -66,23 +70,26 @@ pub fn set_observe_value(packet: Packet, store: &mut [u8], start: u32, value: u3
     put_value(packet, edit, store, start, wide)
 }
 
-// The value of Observe in a packet.
+// The value of Observe in a packet, with how many leading zero bytes were read. An absent one has none.
 pub enum Observe {
-    Value(u32),
+    Value { value: u32, zeros: usize },
     None,
     Refused(Refusal),
 }
 
 // Reads the value of Observe; only the first counts.
 pub fn get_observe_value(packet: Packet, store: &[u8]) -> Observe
-    ensures { λ r. ⌜ observed r ≡ observeIn (now (store .entry)) packet ⌝ }
+    ensures { λ r. ⌜ GetsObserve (now (store .entry)) packet r ⌝ }
 {
     if !packet.has_option(option_number::OBSERVE) {
         return Observe::None;
     }
     match OptionValueU32::try_from(packet.get_first_option(store, option_number::OBSERVE)) {
         ReadU32::Refused(e) => Observe::Refused(e),
-        ReadU32::Value(value) => Observe::Value(value.0),
+        ReadU32::Value { value, zeros } => Observe::Value {
+            value: value.0,
+            zeros,
+        },
     }
 }
 

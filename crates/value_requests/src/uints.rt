@@ -30,7 +30,7 @@ fn most_of(width: u64) -> u64 {
 
 fn tell(uint: Uint) -> Told {
     match uint {
-        Uint::Number(number) => Told::number(NUMBER, number),
+        Uint::Number { number, zeros } => Told::number(NUMBER, number).padded(zeros),
         Uint::Refused(why) => Told::refused(why),
     }
 }
@@ -44,22 +44,34 @@ pub fn uint_read(value: Value, bytes: &[u8]) -> Told {
     tell(read_uint(width, bytes))
 }
 
-fn read_uint(width: u64, value: &[u8]) -> Uint {
+fn read_uint(width: u64, bytes: &[u8]) -> Uint {
     match width {
-        1 => match OptionValueU8::try_from(value) {
-            ReadU8::Value(number) => Uint::Number(number.0 as u64),
+        1 => match OptionValueU8::try_from(bytes) {
+            ReadU8::Value { value, zeros } => Uint::Number {
+                number: value.0 as u64,
+                zeros,
+            },
             ReadU8::Refused(why) => Uint::Refused(why),
         },
-        2 => match OptionValueU16::try_from(value) {
-            ReadU16::Value(number) => Uint::Number(number.0 as u64),
+        2 => match OptionValueU16::try_from(bytes) {
+            ReadU16::Value { value, zeros } => Uint::Number {
+                number: value.0 as u64,
+                zeros,
+            },
             ReadU16::Refused(why) => Uint::Refused(why),
         },
-        4 => match OptionValueU32::try_from(value) {
-            ReadU32::Value(number) => Uint::Number(number.0 as u64),
+        4 => match OptionValueU32::try_from(bytes) {
+            ReadU32::Value { value, zeros } => Uint::Number {
+                number: value.0 as u64,
+                zeros,
+            },
             ReadU32::Refused(why) => Uint::Refused(why),
         },
-        _ => match OptionValueU64::try_from(value) {
-            ReadU64::Value(number) => Uint::Number(number.0),
+        _ => match OptionValueU64::try_from(bytes) {
+            ReadU64::Value { value, zeros } => Uint::Number {
+                number: value.0,
+                zeros,
+            },
             ReadU64::Refused(why) => Uint::Refused(why),
         },
     }

@@ -196,7 +196,7 @@ impl Varied {
                 let padding = self.random.below(2);
                 [vec![0; padding], format.to_be_bytes().to_vec()].concat()
             }
-            OBSERVE | CONTENT_FORMAT => self.random.up_to(5),
+            OBSERVE | CONTENT_FORMAT => self.padded(5),
             _ => self.value(1),
         }
     }

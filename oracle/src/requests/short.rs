@@ -16,10 +16,12 @@ pub fn all(put: &mut dyn FnMut(String)) {
     }
 }
 
-/// What is asked in its strict form, and what has no plain form.
+/// What is asked in its strict form, what has no plain form, and what is answered with counts of zeros.
 pub fn strict(put: &mut dyn FnMut(String)) {
     datagrams(put);
     blocks(put);
+    uints(put);
+    padded(put);
     for exponent in 8..=255 {
         put(format!("block-size {exponent}"));
     }
@@ -69,6 +71,29 @@ fn uints(put: &mut dyn FnMut(String)) {
     }
     for number in 0..=65535 {
         put(format!("uint-write 2 2 {number}"));
+    }
+}
+
+/// Values over a few bytes: uints of each width, blocks, content formats, Observe; and two of the latter, of which the
+/// first decides.
+fn padded(put: &mut dyn FnMut(String)) {
+    let mut values = Vec::new();
+    strings_over(&[0, 1, 0x3c], 5, &mut |value| values.push(hex(value)));
+    for value in &values {
+        for width in [1, 2, 4, 8] {
+            put(format!("uint-read {width} {value}"));
+        }
+        put(format!("block-read {value}"));
+        for number in [6, 12] {
+            put(format!("edit new ; add {number} {value}"));
+        }
+    }
+    let mut short = Vec::new();
+    strings_over(&[0, 0x3c], 2, &mut |value| short.push(hex(value)));
+    for first in &short {
+        for second in &short {
+            put(format!("edit new ; set 6 {first},{second} ; set 12 {second},{first}"));
+        }
     }
 }
 
@@ -127,21 +152,26 @@ fn codes(put: &mut dyn FnMut(String)) {
 
 /// The code texts of up to so many of these bytes. What isn't UTF-8 is no text for coap-lite, and left out.
 fn words_over(alphabet: &[u8], most: usize, put: &mut dyn FnMut(String)) {
-    let mut words = vec![Vec::new()];
-    for length in 0..=most {
-        for word in &words {
-            if std::str::from_utf8(word).is_ok() {
-                put(format!("code-read {}", hex(word)));
-            }
+    strings_over(alphabet, most, &mut |word| {
+        if std::str::from_utf8(word).is_ok() {
+            put(format!("code-read {}", hex(word)));
         }
+    });
+}
+
+/// All strings of up to so many of these bytes.
+fn strings_over(alphabet: &[u8], most: usize, take: &mut dyn FnMut(&[u8])) {
+    let mut strings = vec![Vec::new()];
+    for length in 0..=most {
+        strings.iter().for_each(|string| take(string));
         if length == most {
             break;
         }
-        let longer = |word: &Vec<u8>| {
-            let word = word.clone();
-            alphabet.iter().map(move |&byte| [&word[..], &[byte]].concat())
+        let longer = |string: &Vec<u8>| {
+            let string = string.clone();
+            alphabet.iter().map(move |&byte| [&string[..], &[byte]].concat())
         };
-        words = words.iter().flat_map(longer).collect();
+        strings = strings.iter().flat_map(longer).collect();
     }
 }
 

@@ -60,11 +60,12 @@ impl Varied {
         if self.made % LONG == 1 && self.made / LONG < LONG_MOST {
             return self.long_strict();
         }
-        match self.random.below(16) {
+        match self.random.below(18) {
             0..=4 => format!("register {}", self.registered().asked()),
             5..=8 => self.write_strict(),
             9 => self.full_read(),
             10 | 11 => self.last_number_read(),
+            12 | 13 => self.to_uint(),
             _ => self.block_strict(),
         }
     }
@@ -335,11 +336,7 @@ impl Varied {
     fn uint(&mut self) -> String {
         let width = self.random.of(&[1, 2, 4, 8]);
         if self.random.one_in(2) {
-            let mut value = self.random.up_to(width + 2);
-            if self.random.one_in(3) {
-                value.iter_mut().take(width - 1).for_each(|byte| *byte = 0);
-            }
-            return format!("uint-read {width} {}", hex(&value));
+            return format!("uint-read {width} {}", hex(&self.padded(width + 2)));
         }
         let most = u64::MAX >> (64 - 8 * width);
         let number = match self.random.below(3) {
@@ -349,6 +346,27 @@ impl Varied {
         };
         let room = if self.random.one_in(3) { self.random.below(9) } else { 8 };
         format!("uint-write {width} {room} {number}")
+    }
+
+    /// A uint of a width that need be none, most often padded.
+    fn to_uint(&mut self) -> String {
+        let width = self.random.below(11);
+        let length = self.random.near(&[width]);
+        format!("to-uint {width} {}", hex(&self.padded(length)))
+    }
+
+    /// Up to so many bytes, with zeros in front half of the time, and perhaps one zero byte elsewhere.
+    pub fn padded(&mut self, most: usize) -> Vec<u8> {
+        let mut value = self.random.up_to(most);
+        if self.random.one_in(2) {
+            let zeros = self.random.below(value.len() + 1);
+            value[..zeros].fill(0);
+        }
+        if !value.is_empty() && self.random.one_in(4) {
+            let at = self.random.below(value.len());
+            value[at] = 0;
+        }
+        value
     }
 
     fn text(&mut self) -> String {
@@ -416,7 +434,7 @@ impl Varied {
                 format!("block-new {number} {more} {}", self.random.near(&[power]))
             }
             1 => format!("block-new {} {more} {}", self.random.wide(64), self.random.wide(64)),
-            2 => format!("block-read {}", hex(&self.random.up_to(5))),
+            2 => format!("block-read {}", hex(&self.padded(5))),
             _ => {
                 let (room, exponent) = (self.random.below(4), self.random.below(9));
                 format!("block-write {room} {} {more} {exponent}", number.min(65535))
@@ -424,7 +442,7 @@ impl Varied {
         }
     }
 
-    /// Blocks with numbers and sizes beside the largest, and values of two to four bytes.
+    /// Blocks with numbers and sizes beside the largest, and values of up to four bytes.
     fn block_strict(&mut self) -> String {
         let number = match self.random.below(4) {
             0 => self.random.wide(32) as usize,
@@ -436,10 +454,7 @@ impl Varied {
                 let size = 8 << self.random.below(9);
                 format!("block-new {number} {more} {}", self.random.of(&[size - 1, size, size, size, size + 1]))
             }
-            1 => {
-                let length = 2 + self.random.below(3);
-                format!("block-read {}", hex(&self.random.bytes(length)))
-            }
+            1 => format!("block-read {}", hex(&self.padded(4))),
             _ => format!("block-write {} {number} {more} {}", self.random.below(5), self.random.below(9)),
         }
     }

@@ -3,8 +3,10 @@ use Prim.Native.Nat.{_-_}
 use mathlib.Core.Path.{sym, ap, _∙_}
 use native.Mathlib.Omega.{arith}
 use lib.ListN.{length}
+use borrow.Author.Needs.{needs}
+use Rattle.ground.proofs.Part.{bytes-of}
 use Rattle.refusal.specs.Answer.{given}
-use Rattle.option_value.proofs.Reading.{Reading, reading-start, reading-room, reading-turn, reading-end}
+use Rattle.option_value.proofs.Reading.{Reading, reading-start, reading-room, reading-turn, Done, reading-end}
 use Rattle.option_value.proofs.Uints.{read-over, read-long, read-within}
 use Rattle.option_value.proofs.option_to_uint.Statement.{statement}
 use Rattle.option_value.proofs.option_to_uint.Tie as tie
@@ -31,11 +33,11 @@ shared-slice-read-value : tie.Need-shared-slice-read-value Inv-loop μ-loop
 shared-slice-read-value c = omega arith
 
 cast-value : tie.Need-cast-value Inv-loop μ-loop
-cast-value c = omega (arith, c .shared-slice-known .given (c .before .before .loop .i))
+cast-value c = omega (arith, c .shared-slice-known2 .given (c .before .before .loop .i))
 
 add-value : tie.Need-add-value Inv-loop μ-loop
 add-value c =
-    omega (arith, c .shared-slice-known .given (c .before .before .loop .i), reading-room (omega arith) (omega arith) (c .before .before .loop .inv))
+    omega (arith, c .shared-slice-known2 .given (c .before .before .loop .i), reading-room (omega arith) (omega arith) (c .before .before .loop .inv))
 
 add-i : tie.Need-add-i Inv-loop μ-loop
 add-i c = omega arith
@@ -44,11 +46,22 @@ loop-less : tie.Need-loop-less Inv-loop μ-loop
 loop-less c = omega arith
 
 loop-again : tie.Need-loop-again Inv-loop μ-loop
-loop-again c = reading-turn (omega arith) (c .shared-slice-known .given (c .before .before .loop .i) .fits) (c .before .before .loop .inv)
+loop-again c = reading-turn (omega arith) (c .shared-slice-known2 .given (c .before .before .loop .i) .fits) (c .before .before .loop .inv)
+
+uint-length-requires : tie.Need-uint-length-requires Inv-loop μ-loop
+uint-length-requires c κs = search needs
+
+-- The number is read, and what isn't its shortest bytes is zeros.
+done : (c : tie.After-uint-length Inv-loop μ-loop) → Done (c .before .before .before .before .before .before .args .encoded .now) (c .before .before .loop .value) (c .uint-length .result)
+done c =
+    let start = c .before .before .before .before .before in
+    reading-end (bytes-of (start .before .args .encoded .now) (λ i. start .shared-slice-known .given i .fits)) (omega arith) (omega arith) (c .before .before .loop .inv) (c .uint-length .ensures)
+
+sub-zeros : tie.Need-sub-zeros Inv-loop μ-loop
+sub-zeros c = omega (arith, done c .fits)
 
 returns-3 : tie.Need-returns-3 Inv-loop μ-loop
-returns-3 c =
-    ap given (reading-end (omega arith) (c .before .loop .inv)) ∙ sym (read-within _ _ (omega arith) (omega arith))
+returns-3 c = ap given (done c .read) ∙ sym (read-within _ _ (omega arith) (omega arith))
 
 pub option-to-uint-spec : {M : Type 1} → statement M
 option-to-uint-spec =
@@ -66,4 +79,6 @@ option-to-uint-spec =
     add-i
     loop-less
     loop-again
+    uint-length-requires
+    sub-zeros
     returns-3)

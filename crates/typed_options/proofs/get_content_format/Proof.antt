@@ -16,7 +16,7 @@ unfolding formatIn
 answer c =
     let a = c .before .before .before .before .before .args in
     ap formatOf (c .try-from .ensures ∙ ap (readUint 2) (c .before .get-first-option .ensures))
-    ∙ on-present None (λ r. formatOf (readUint 2 (valueOf (now (a .store)) r))) _ (ofNumber 12 (recordsOf (a .packet)))
+    ∙ on-present (None 0) (λ r. formatOf (readUint 2 (valueOf (now (a .store)) r))) _ (ofNumber 12 (recordsOf (a .packet)))
     (c .before .before .before .has-option .ensures) (c .before .before .if1 .left)
 
 has-option-requires : tie.Need-has-option-requires
@@ -26,7 +26,7 @@ returns : tie.Need-returns
 unfolding formatIn
 returns c =
     let a = c .before .before .before .args in
-    on-absent None (λ r. formatOf (readUint 2 (valueOf (now (a .store)) r))) _ (ofNumber 12 (recordsOf (a .packet))) (c .before .has-option .ensures) (c .if1 .taken)
+    on-absent (None 0) (λ r. formatOf (readUint 2 (valueOf (now (a .store)) r))) _ (ofNumber 12 (recordsOf (a .packet))) (c .before .has-option .ensures) (c .if1 .taken)
 
 get-first-option-requires : tie.Need-get-first-option-requires
 get-first-option-requires c κs = search needs

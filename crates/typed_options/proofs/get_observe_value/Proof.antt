@@ -3,7 +3,7 @@ use mathlib.Core.Path.{_≡_, sym, ap, _∙_}
 use denote.Ref.{now}
 use Prim.Native.Nat.{ℕ}
 use Rattle.refusal.specs.Answer.{Answer, given, onward}
-use Rattle.option_value.specs.Uint.{readUint, readU32}
+use Rattle.option_value.specs.Uint.{Padded, readUint, readU32}
 use Rattle.packet.specs.Packet.{recordsOf, ofNumber, valueOf}
 use Rattle.typed_options.specs.Getters.{Found, number, absent, observeIn}
 use Rattle.typed_options.proofs.Getters.{on-absent, on-present}
@@ -12,7 +12,7 @@ use Rattle.typed_options.proofs.get_observe_value.Statement.{statement}
 use Rattle.typed_options.proofs.get_observe_value.Tie as tie
 
 -- A number that was read is found.
-abbrev found : Answer ℕ → Answer Found
+abbrev found : Answer (Padded ℕ) → Answer Found
 found a = onward a (λ n. given (number n))
 
 -- The answer is what the value of the first record reads as.
