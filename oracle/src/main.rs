@@ -5,6 +5,7 @@
 mod comparison;
 mod counts;
 mod plain_answers;
+mod plans;
 mod register;
 mod requests;
 mod sample;
@@ -23,6 +24,7 @@ const USAGE: &str = "usage: oracle answer              coap-lite's answers to th
        oracle strict SEED SIZE    requests that coap-lite has no answer to, or not all of it
        oracle outside             requests outside coap-lite's part, to show what differs
        oracle sample FOLDER       writes requests and expected answers to FOLDER/stdin and FOLDER/stdout
+       oracle long                documented requests too long for the sample, each with a tab and its answer
        oracle differ REQUESTS RUST RATTLE     how many of the answers in the two files differ, counts of zeros apart
        oracle differ-strict REQUESTS RUST RATTLE      the same, counts of zeros and all
        oracle show REQUESTS RUST RATTLE       each request with both answers";
@@ -54,6 +56,11 @@ fn run(words: &[&str]) -> io::Result<ExitCode> {
         ["plain", seed, size] => requests::plain(number(seed)?, number(size)? as usize, &mut out)?,
         ["strict", seed, size] => requests::strict(number(seed)?, number(size)? as usize, &mut out)?,
         ["sample", folder] => sample::write(Path::new(folder))?,
+        ["long"] => {
+            for (request, answer) in requests::documented(true) {
+                writeln!(out, "{request}\t{answer}")?;
+            }
+        }
         ["outside"] => requests::outside(&mut out)?,
         [verdict @ ("differ" | "differ-strict"), requests, rust, rattle] => {
             if comparison::count([requests, rust, rattle], verdict == "differ-strict", &mut out)? > 0 {

@@ -52,7 +52,9 @@ fn answer_request(line: &[u8]) -> Option<String> {
         | b"block-write-strict"
         | b"block-size-strict"
         | b"register"
-        | b"properties" => Some(OUTSIDE.into()),
+        | b"properties"
+        | b"plan"
+        | b"plan-check" => Some(OUTSIDE.into()),
         _ => None,
     }
 }

@@ -13,7 +13,7 @@ const SEED: u64 = 2;
 
 /// Writes the requests to `stdin` and the answers to `stdout` in a folder. The last request lacks its newline, as it may.
 pub fn write(folder: &Path) -> io::Result<()> {
-    let pairs = [plain()?, requests::documented()].concat();
+    let pairs = [plain()?, requests::documented(false)].concat();
     let requests: Vec<&str> = pairs.iter().map(|(request, _)| request.as_str()).collect();
     let answers: String = pairs.iter().map(|(_, answer)| format!("{answer}\n")).collect();
     fs::write(folder.join("stdin"), requests.join("\n"))?;

@@ -1,11 +1,11 @@
-//! The answers that coap-lite can't give, or not all of them: strict messages and blocks here, the register and uints in
-//! files of their own. They are the rules written a second time, straight from the documents: "01" is the scope of work, which has the numbers of the
-//! refusals and their order, and a section is one of RFC 7252 unless another is named. Names of code bytes alone are
-//! coap-lite's.
+//! The answers that coap-lite can't give, or not all of them: strict messages and blocks here, the other subjects in files
+//! of their own. They are the rules written a second time, straight from the documents: "01" is the scope of work, which has
+//! the numbers of the refusals and their order, and a section is one of RFC 7252 unless another is named. Names of code
+//! bytes alone are coap-lite's.
 
 use crate::uints::Uint;
 use crate::words::{hex, kind, kind_number, number, yes, Parts, Words, DEFAULT_LIMIT, LONGEST_LINE, MOST_ROOM};
-use crate::{counts, plain_answers, register, uints};
+use crate::{counts, plain_answers, plans, register, uints};
 use coap_lite::MessageClass;
 
 /// 01, What a packet is here: the most bytes of a datagram or a store, and the most options.
@@ -51,6 +51,8 @@ fn answer_request(line: &[u8]) -> Option<Judged<String>> {
         b"to-uint" => uints::shown(words.number(u64::MAX)?, &words.bytes()?),
         // of a script, the counts alone are ours
         b"edit" => return Some(Ok(counts::put_in(line, plain_answers::answer(line)))),
+        b"plan" => kept(plans::answer_plan(&mut words)?),
+        b"plan-check" => plans::answer_check(&mut words)?,
         b"register" => register::check(&words.parts()?),
         b"properties" => Ok(register::properties(words.option_number()?).map(yes).join(" ")),
         _ => return None,
@@ -61,6 +63,12 @@ fn answer_request(line: &[u8]) -> Option<Judged<String>> {
 
 fn width(word: &[u8]) -> Option<u64> {
     number(word, 8).filter(|width| matches!(width, 1 | 2 | 4 | 8))
+}
+
+/// No rule changes what isn't written: nothing after a refusal, and nothing behind what was written.
+fn kept(answer: Judged<String>) -> Judged<String> {
+    let answer = answer.unwrap_or_else(|refusal| format!("refused {refusal}"));
+    Ok(format!("{answer} kept"))
 }
 
 /// 12 is the last refusal of every order.

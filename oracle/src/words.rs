@@ -11,6 +11,10 @@ pub const LONGEST_LINE: usize = 200_000;
 pub const DEFAULT_LIMIT: usize = 1_152;
 /// The longest output that a request can lend.
 pub const MOST_ROOM: u64 = 71_000;
+/// The most bytes of a word `zeros:N`, and of the store of a packet that a request names by its parts.
+const MOST_NAMED: u64 = 100_000;
+/// The most values of a plan, and the most that a request can lend for one.
+pub const MOST_VALUES: u64 = 40_000;
 /// How many bytes the store of an edit script holds.
 pub const STORE: usize = 70_000;
 
@@ -62,8 +66,19 @@ impl<'a> Words<'a> {
         kind(self.byte()?)
     }
 
+    /// Numbers with commas between, or `-`.
+    pub fn numbers(&mut self, count: u64, most: u64) -> Option<Vec<u64>> {
+        let word = self.word()?;
+        if word == b"-" {
+            return Some(Vec::new());
+        }
+        let numbers: Vec<u64> =
+            word.split(|&byte| byte == b',').map(|word| number(word, most)).collect::<Option<_>>()?;
+        (numbers.len() as u64 <= count).then_some(numbers)
+    }
+
     pub fn parts(&mut self) -> Option<Parts> {
-        Some(Parts {
+        let parts = Parts {
             version: self.byte()?,
             kind: self.kind()?,
             class: self.class()?,
@@ -71,7 +86,8 @@ impl<'a> Words<'a> {
             token: self.bytes()?,
             options: options(self.word()?)?,
             payload: self.bytes()?,
-        })
+        };
+        (parts.store() as u64 <= MOST_NAMED).then_some(parts)
     }
 }
 
@@ -169,6 +185,9 @@ pub fn number(word: &[u8], most: u64) -> Option<u64> {
 pub fn bytes(word: &[u8]) -> Option<Vec<u8>> {
     if word == b"-" {
         return Some(Vec::new());
+    }
+    if let Some(count) = word.strip_prefix(b"zeros:") {
+        return Some(vec![0; number(count, MOST_NAMED)? as usize]);
     }
     if word.is_empty() || word.len() % 2 == 1 {
         return None;

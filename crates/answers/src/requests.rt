@@ -23,6 +23,10 @@ pub fn answer(
     if name.index != NOWHERE {
         return raw_edits::answer(name, line, store, out, place);
     }
+    let name = plan_requests::named(line);
+    if name.index != NOWHERE {
+        return plan_requests::answer(name, line, store, out, place);
+    }
     answer_value(line, store, room).put(out, place, store, room)
 }
 

@@ -18,7 +18,7 @@ use Rattle.unflat.specs.Unflat.{taken}
 use Rattle.refusal.specs.Answer.{Beside}
 use Rattle.packet.specs.declared.Packet.{Packet}
 use Rattle.reading.specs.Reading.{decoded}
-use Rattle.guarantees.specs.Determined.{TellsApart, OneAnswer, Told}
+use Rattle.guarantees.specs.Determined.{TellsApart, OneAnswer, Told, OneVerdict, OnePlan}
 
 pub one-answer : OneAnswer
 one-answer A B f t d x y e q = t x y (e ∙ sym q)
@@ -76,3 +76,9 @@ told =
       checks = one-checked;
       flat-packets = one-taken;
     }
+
+pub one-verdict : OneVerdict
+one-verdict bytes held values r s p q = one-outcome r s (p ∙ sym q)
+
+pub one-plan : OnePlan
+one-plan bytes held old r s new other p q = (one-written r s (p .answer ∙ sym (q .answer)), p .list ∙ sym (q .list))

@@ -7,4 +7,5 @@ pub mod StrictWriting
 pub mod RoundTrips
 pub mod Register
 pub mod Padded
+pub mod Plans
 pub mod Samples

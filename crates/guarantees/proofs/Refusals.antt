@@ -1,6 +1,7 @@
 -- What a refused call leaves, from the shapes of the promises.
 use mathlib.Core.Path.{_≡_, refl, sym, ap, _∙_}
 use mathlib.Core.Logic.{inl, inr}
+use lib.ListN.{length}
 use Rattle.refusal.specs.Answer.{Answer, given, refused, outcome, written, Beside, beside}
 use Rattle.refusal.specs.Number.{numberOf}
 use Rattle.refusal.specs.declared.Outcome.{Outcome}
@@ -10,7 +11,8 @@ use Rattle.refusal.proofs.Distinct.{number-listed, numbers-are}
 use Rattle.packet.specs.Packet.{newPacket}
 use Rattle.reading.specs.Reading.{reading}
 use Rattle.register.proofs.Order.{none-kept}
-use Rattle.guarantees.specs.Refusals.{Numbered, OutputKept, DoneOr, NoPacketRead, PacketKept, StoreKept, HeaderKept, NothingKept}
+use Rattle.guarantees.specs.Refusals.{Numbered, OutputKept, DoneOr, NoPacketRead, PacketKept, StoreKept, HeaderKept, NothingKept, ListKept}
+use Rattle.planning.specs.Planner.{values, planning}
 
 pub numbered : Numbered
 numbered = (number-listed, numbers-are)
@@ -39,3 +41,7 @@ header-kept a old r q = besides (r .outcome) (r .header) old a q
 
 pub nothing-kept : NothingKept
 nothing-kept = none-kept
+
+pub list-kept : ListKept
+list-kept bytes held old r new q e is =
+    output-kept (planning (length old) bytes held) 0 (values bytes held) old r new (q .answer) (q .list) e is

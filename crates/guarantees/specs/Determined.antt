@@ -1,7 +1,11 @@
 -- No second answer meets a promise. A promise is an equation between the answer, told by a definition, and a definition of the
 -- arguments; so it has one answer where that definition tells answers apart.
+use Prim.Native.Nat.{ℕ}
 use mathlib.Core.Path.{_≡_}
+use mathlib.Core.List.{List}
 use Rattle.refusal.specs.Answer.{written, outcome}
+use Rattle.refusal.specs.declared.Outcome.{Outcome}
+use Rattle.refusal.specs.declared.Written.{Written}
 use Rattle.decimal.specs.Decimal.{decimalOf}
 use Rattle.code_text.specs.CodeText.{codeOf}
 use Rattle.option_value.specs.Uint.{uintOf, readU8, readU16, readU32, readU64}
@@ -15,6 +19,8 @@ use Rattle.splicing.specs.Edited.{edited}
 use Rattle.typed_options.specs.Getters.{observed}
 use Rattle.register.specs.Check.{checked}
 use Rattle.unflat.specs.Unflat.{taken}
+use Rattle.plan_checking.specs.Plan.{Checks}
+use Rattle.planning.specs.Planner.{Plans}
 
 -- Different answers are told differently.
 abbrev pub TellsApart : {A B : Type 0} → (A → B) → Type 0
@@ -48,3 +54,12 @@ pub record Told : Type 0 where
   pub observe-values : TellsApart observed
   pub checks : TellsApart checked
   pub flat-packets : TellsApart taken
+
+-- So a plan has one verdict; and an image, with what is held of it, one plan in one list.
+abbrev pub OneVerdict : Type 0
+OneVerdict = (bytes : ℕ) (held values : List ℕ) (r s : Outcome) → Checks bytes held values r → Checks bytes held values s → r ≡ s
+
+abbrev pub OnePlan : Type 0
+OnePlan =
+    (bytes : ℕ) (held old : List ℕ) (r s : Written) (new other : List ℕ)
+    → Plans bytes held old r new → Plans bytes held old s other → (r ≡ s) × (new ≡ other)

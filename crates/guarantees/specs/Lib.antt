@@ -7,3 +7,4 @@ pub mod StrictWriting
 pub mod RoundTrips
 pub mod Register
 pub mod Padded
+pub mod Plans

@@ -1,4 +1,5 @@
--- Every operation answers a value or one numbered refusal, and a refused call changes no lent byte, no packet and no header.
+-- Every operation answers a value or one numbered refusal, and a refused call changes no lent byte or number, no packet and no
+-- header.
 use Prim.Native.Nat.{ℕ}
 use mathlib.Core.Path.{_≡_}
 use mathlib.Core.Bool.{Bool, false}
@@ -28,6 +29,7 @@ use Rattle.typed_options.specs.Setters.{Sets}
 use Rattle.register.specs.Check.{Checks}
 use Rattle.register.specs.declared.Checked.{Checked}
 use Rattle.register.specs.declared.Verdict.the-variants.{Passes}
+use Rattle.planning.specs.Planner.{Plans}
 
 -- A refusal's number is one of those that there are, and each of those is a refusal's.
 abbrev pub Numbered : Type 0
@@ -65,3 +67,9 @@ HeaderKept = (a : Answer Header) (old : Header) (r : HeaderSet) → settingOf r 
 abbrev pub NothingKept : Type 0
 NothingKept =
     (store : ℕ) (p : Packet) (c : Checked) → Checks store p c → (c .outcome ≡ Passes) ⊎ (c .kept ≡ replicate maxOptions false)
+
+-- A planner that is refused leaves the list as it was.
+abbrev pub ListKept : Type 0
+ListKept =
+    (bytes : ℕ) (held old : List ℕ) (r : Written) (new : List ℕ) → Plans bytes held old r new
+    → (e : Refusal) → r ≡ Refused e → new ≡ old

@@ -2,7 +2,7 @@
 use Prim.Native.Nat.{ℕ}
 use mathlib.Core.List.{List, [], _∷_}
 use Rattle.refusal.specs.declared.Refusal.{Refusal}
-use Rattle.refusal.specs.declared.Refusal.the-variants.{InvalidHeader, InvalidTokenLength, InvalidOptionDelta, InvalidOptionLength, InvalidPacketLength, TooManyOptions, WrongVersion, EmptyCarries, MarkerAlone, TooLong, BadRecord, NoRoom, BadUint, BadBlockSize, BadText, BadOption, BlockNumber}
+use Rattle.refusal.specs.declared.Refusal.the-variants.{InvalidHeader, InvalidTokenLength, InvalidOptionDelta, InvalidOptionLength, InvalidPacketLength, TooManyOptions, WrongVersion, EmptyCarries, MarkerAlone, TooLong, BadRecord, NoRoom, BadUint, BadBlockSize, BadText, BadOption, BlockNumber, BadPlan}
 
 abbrev pub numberOf : Refusal → ℕ
 numberOf InvalidHeader = 1
@@ -22,12 +22,13 @@ numberOf BadBlockSize = 14
 numberOf BadText = 15
 numberOf BadOption = 16
 numberOf BlockNumber = 17
+numberOf BadPlan = 22
 
 -- Every refusal, in the order of their numbers.
 abbrev pub refusals : List Refusal
 refusals =
-    InvalidHeader ∷ InvalidTokenLength ∷ InvalidOptionDelta ∷ InvalidOptionLength ∷ InvalidPacketLength ∷ TooManyOptions ∷ WrongVersion ∷ EmptyCarries ∷ MarkerAlone ∷ TooLong ∷ BadRecord ∷ NoRoom ∷ BadUint ∷ BadBlockSize ∷ BadText ∷ BadOption ∷ BlockNumber ∷ []
+    InvalidHeader ∷ InvalidTokenLength ∷ InvalidOptionDelta ∷ InvalidOptionLength ∷ InvalidPacketLength ∷ TooManyOptions ∷ WrongVersion ∷ EmptyCarries ∷ MarkerAlone ∷ TooLong ∷ BadRecord ∷ NoRoom ∷ BadUint ∷ BadBlockSize ∷ BadText ∷ BadOption ∷ BlockNumber ∷ BadPlan ∷ []
 
 -- The numbers that there are: 18 is a hole, which no refusal fills.
 abbrev pub numbers : List ℕ
-numbers = 1 ∷ 2 ∷ 3 ∷ 4 ∷ 5 ∷ 6 ∷ 7 ∷ 8 ∷ 9 ∷ 10 ∷ 11 ∷ 12 ∷ 13 ∷ 14 ∷ 15 ∷ 16 ∷ 17 ∷ []
+numbers = 1 ∷ 2 ∷ 3 ∷ 4 ∷ 5 ∷ 6 ∷ 7 ∷ 8 ∷ 9 ∷ 10 ∷ 11 ∷ 12 ∷ 13 ∷ 14 ∷ 15 ∷ 16 ∷ 17 ∷ 22 ∷ []

@@ -22,6 +22,7 @@ pub enum Refusal {
     BadText,
     BadOption,
     BlockNumber,
+    BadPlan,
 }
 
 impl Refusal {
@@ -47,6 +48,7 @@ impl Refusal {
             Refusal::BadText => 15,
             Refusal::BadOption => 16,
             Refusal::BlockNumber => 17,
+            Refusal::BadPlan => 22,
         }
     }
 }

@@ -11,12 +11,15 @@ pub fn plain(put: &mut dyn FnMut(String)) {
     short::classes(put);
 }
 
-/// The documented requests that are marked with `+`; those of one section in the order of their kinds.
+/// The marks of documented requests that are asked in every strict comparison, the second of those too long for the sample.
+const MARKS: [&str; 2] = ["+ ", "* "];
+
+/// The documented requests that are marked; those of one section in the order of their kinds.
 pub fn strict(put: &mut dyn FnMut(String)) {
     for section in DOCUMENTED.split("\n\n") {
         let mut marked = Vec::new();
         listed(section, &mut |line| {
-            if let Some(row) = line.strip_prefix("+ ") {
+            if let Some(row) = MARKS.iter().find_map(|mark| line.strip_prefix(mark)) {
                 marked.push(row.split_once(" = ").map_or(row, |(request, _)| request).to_string());
             }
         });
@@ -29,11 +32,14 @@ pub fn outside(put: &mut dyn FnMut(String)) {
     listed(OUTSIDE, put);
 }
 
-/// Requests with the answers that the documents give.
-pub fn documented() -> Vec<(String, String)> {
+/// Requests with the answers that the documents give: those that the sample has, or those that are too long for it.
+pub fn documented(long: bool) -> Vec<(String, String)> {
     let mut pairs = Vec::new();
     listed(DOCUMENTED, &mut |line| {
-        let row = line.strip_prefix("+ ").unwrap_or(&line);
+        if line.starts_with("* ") != long {
+            return;
+        }
+        let row = MARKS.iter().find_map(|mark| line.strip_prefix(mark)).unwrap_or(&line);
         if let Some((request, answer)) = row.split_once(" = ") {
             pairs.push((request.to_string(), answer.to_string()));
         }

@@ -1,5 +1,6 @@
 //! Every short input of every kind.
 
+use super::planned;
 use crate::register::lengths;
 use crate::words::{class_word, hex, named_classes};
 use coap_lite::MessageClass;
@@ -29,6 +30,7 @@ pub fn strict(put: &mut dyn FnMut(String)) {
         put(format!("properties {number}"));
     }
     registers(put);
+    planned::small(put);
 }
 
 /// All byte strings of at most two bytes.

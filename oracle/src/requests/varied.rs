@@ -60,12 +60,13 @@ impl Varied {
         if self.made % LONG == 1 && self.made / LONG < LONG_MOST {
             return self.long_strict();
         }
-        match self.random.below(18) {
+        match self.random.below(22) {
             0..=4 => format!("register {}", self.registered().asked()),
             5..=8 => self.write_strict(),
             9 => self.full_read(),
             10 | 11 => self.last_number_read(),
             12 | 13 => self.to_uint(),
+            14..=17 => self.plan(),
             _ => self.block_strict(),
         }
     }
@@ -522,10 +523,13 @@ impl Varied {
         self.write_of(&parts)
     }
 
-    /// A datagram or a store beside the longest, or a value beside the longest.
+    /// A datagram, a store, a value or an image beside the longest.
     fn long_strict(&mut self) -> String {
         let mut parts = self.parts();
         let aim = self.random.near(&[STORE]);
+        if self.random.one_in(8) {
+            return self.long_plan();
+        }
         if self.random.one_in(3) {
             let mut datagram = parts.datagram();
             datagram.push(0xff);

@@ -1,0 +1,6 @@
+pub mod Tests
+pub mod Accepted
+pub mod From
+pub mod Left
+pub mod Powers
+mod Examples
