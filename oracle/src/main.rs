@@ -4,6 +4,7 @@
 
 mod comparison;
 mod counts;
+mod frames;
 mod plain_answers;
 mod plans;
 mod register;

@@ -54,7 +54,9 @@ fn answer_request(line: &[u8]) -> Option<String> {
         | b"register"
         | b"properties"
         | b"plan"
-        | b"plan-check" => Some(OUTSIDE.into()),
+        | b"plan-check"
+        | b"frame-out"
+        | b"frame-back" => Some(OUTSIDE.into()),
         _ => None,
     }
 }

@@ -1,5 +1,6 @@
 //! Requests to ask. The plain ones stay where coap-lite's answer is the one that the Rattle program has to give.
 
+mod framed;
 mod listed;
 mod planned;
 mod random;
@@ -88,7 +89,7 @@ pub fn outside(out: &mut impl Write) -> io::Result<()> {
 /// The kinds of request that have a strict form, those that have no plain one, and those whose answers have counts of zeros,
 /// which coap-lite doesn't tell.
 const BOTH: [&str; 6] = ["read", "write", "block-new", "block-read", "block-write", "block-size"];
-const STRICT: [&str; 4] = ["register", "properties", "plan", "plan-check"];
+const STRICT: [&str; 6] = ["register", "properties", "plan", "plan-check", "frame-out", "frame-back"];
 const COUNTED: [&str; 4] = ["uint-read", "to-uint", "block-read", "edit"];
 
 /// What a strict comparison asks of a request: its strict form; itself, if it has no plain form or its answer has counts.

@@ -5,11 +5,11 @@
 
 use crate::uints::Uint;
 use crate::words::{hex, kind, kind_number, number, yes, Parts, Words, DEFAULT_LIMIT, LONGEST_LINE, MOST_ROOM};
-use crate::{counts, plain_answers, plans, register, uints};
+use crate::{counts, frames, plain_answers, plans, register, uints};
 use coap_lite::MessageClass;
 
 /// 01, What a packet is here: the most bytes of a datagram or a store, and the most options.
-const MOST_BYTES: usize = 70_000;
+pub const MOST_BYTES: usize = 70_000;
 const MOST_OPTIONS: usize = 128;
 /// 3.1: an extension of two bytes is at most 65535 and stands for 269 more.
 const LONGEST_VALUE: usize = 65_535 + 269;
@@ -53,6 +53,8 @@ fn answer_request(line: &[u8]) -> Option<Judged<String>> {
         b"edit" => return Some(Ok(counts::put_in(line, plain_answers::answer(line)))),
         b"plan" => kept(plans::answer_plan(&mut words)?),
         b"plan-check" => plans::answer_check(&mut words)?,
+        b"frame-out" => kept(frames::answer_out(&mut words)?),
+        b"frame-back" => kept(frames::answer_back(&mut words)?),
         b"register" => register::check(&words.parts()?),
         b"properties" => Ok(register::properties(words.option_number()?).map(yes).join(" ")),
         _ => return None,
@@ -72,7 +74,7 @@ fn kept(answer: Judged<String>) -> Judged<String> {
 }
 
 /// 12 is the last refusal of every order.
-fn written(bytes: &[u8], room: u64) -> Judged<String> {
+pub fn written(bytes: &[u8], room: u64) -> Judged<String> {
     demand(bytes.len() as u64 <= room, 12)?;
     Ok(format!("written {} {}", bytes.len(), hex(bytes)))
 }
@@ -80,7 +82,7 @@ fn written(bytes: &[u8], room: u64) -> Judged<String> {
 // ---- reading
 
 /// 3, in the order of 01, Reading: 10, 1, 7, 2, 8, the options, 9.
-fn read(datagram: &[u8]) -> Judged<Parts> {
+pub fn read(datagram: &[u8]) -> Judged<Parts> {
     demand(datagram.len() <= MOST_BYTES, 10)?;
     demand(datagram.len() >= 4, 1)?;
     let (version, token_length, code) = (datagram[0] >> 6, usize::from(datagram[0] & 0xf), datagram[1]);

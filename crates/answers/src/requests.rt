@@ -48,5 +48,9 @@ fn answer_value(line: &[u8], store: &mut [u8], room: &mut [u8]) -> Told {
     if name.index != NOWHERE {
         return raw_writing::answer(name, line, store, room);
     }
+    let name = frame_requests::named(line);
+    if name.index != NOWHERE {
+        return frame_requests::answer(name, line, store, room);
+    }
     Told::no_request()
 }

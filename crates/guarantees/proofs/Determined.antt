@@ -18,10 +18,13 @@ use Rattle.unflat.specs.Unflat.{taken}
 use Rattle.refusal.specs.Answer.{Beside}
 use Rattle.packet.specs.declared.Packet.{Packet}
 use Rattle.reading.specs.Reading.{decoded}
-use Rattle.guarantees.specs.Determined.{TellsApart, OneAnswer, Told, OneVerdict, OnePlan}
+use Rattle.guarantees.specs.Determined.{TellsApart, OneAnswer, Told, OneVerdict, OnePlan, OneConversion}
 
 pub one-answer : OneAnswer
 one-answer A B f t d x y e q = t x y (e ∙ sym q)
+
+pub one-conversion : OneConversion
+one-conversion a old r q new also x y = (one-written r q (x .answer ∙ sym (y .answer)), x .output ∙ sym (y .output))
 
 one-decimal : TellsApart decimalOf
 one-decimal (Value m) (Value n) e = cc

@@ -8,4 +8,6 @@ pub mod RoundTrips
 pub mod Register
 pub mod Padded
 pub mod Plans
+pub mod Frames
 pub mod Samples
+pub mod FrameSamples

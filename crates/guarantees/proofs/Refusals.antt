@@ -2,7 +2,7 @@
 use mathlib.Core.Path.{_≡_, refl, sym, ap, _∙_}
 use mathlib.Core.Logic.{inl, inr}
 use lib.ListN.{length}
-use Rattle.refusal.specs.Answer.{Answer, given, refused, outcome, written, Beside, beside}
+use Rattle.refusal.specs.Answer.{Answer, given, refused, outcome, written, Beside, beside, onward, fitted}
 use Rattle.refusal.specs.Number.{numberOf}
 use Rattle.refusal.specs.declared.Outcome.{Outcome}
 use Rattle.refusal.specs.declared.Outcome.the-variants.{Done, Refused as Not}
@@ -11,8 +11,9 @@ use Rattle.refusal.proofs.Distinct.{number-listed, numbers-are}
 use Rattle.packet.specs.Packet.{newPacket}
 use Rattle.reading.specs.Reading.{reading}
 use Rattle.register.proofs.Order.{none-kept}
-use Rattle.guarantees.specs.Refusals.{Numbered, OutputKept, DoneOr, NoPacketRead, PacketKept, StoreKept, HeaderKept, NothingKept, ListKept}
+use Rattle.guarantees.specs.Refusals.{Numbered, OutputKept, DoneOr, NoPacketRead, PacketKept, StoreKept, HeaderKept, NothingKept, ListKept, FrameOutputKept}
 use Rattle.planning.specs.Planner.{values, planning}
+use Rattle.framing.specs.Framing.{bytesOf}
 
 pub numbered : Numbered
 numbered = (number-listed, numbers-are)
@@ -20,6 +21,9 @@ numbered = (number-listed, numbers-are)
 pub output-kept : OutputKept
 output-kept (given n) at bytes old r new w s e is = not-refused (sym w ∙ ap written is)
 output-kept (refused k) at bytes old r new w s e is = s
+
+pub frame-output-kept : FrameOutputKept
+frame-output-kept a old r new q e is = output-kept (onward a (fitted (length old))) 0 (bytesOf a) old r new (q .answer) (q .output) e is
 
 -- An outcome with a value beside it.
 besides : {A : Type 0} (o : Outcome) (v old : A) (a : Answer A) → _≡_ {A = Beside A} (record { answer = outcome o; value = v }) (beside old a) → DoneOr o v old

@@ -23,7 +23,7 @@ use Rattle.guarantees.proofs.StrictReading.{done, found}
 use Rattle.guarantees.proofs.StrictWriting.{strict-writing}
 
 -- The bytes that were written stand at the front.
-front : (bytes old : List ℕ) (new : List ℕ) → new ≡ bytes ++ drop (length bytes) old → take (length bytes) new ≡ bytes
+pub front : (bytes old : List ℕ) (new : List ℕ) → new ≡ bytes ++ drop (length bytes) old → take (length bytes) new ≡ bytes
 front bytes old new e = ap (take (length bytes)) e ∙ take-append-seam bytes (drop (length bytes) old)
 
 pub written-then-read : WrittenThenRead
@@ -43,7 +43,7 @@ always P (given v) h = h
 always P (refused k) h = tt
 
 -- A datagram that is accepted is at most 70,000 bytes.
-accepted-short : (s : List ℕ) (p : Packet) → reading true s ≡ given p → length s ≤ 70000
+pub accepted-short : (s : List ℕ) (p : Packet) → reading true s ≡ given p → length s ≤ 70000
 unfolding reading
 accepted-short s p e =
     on-given (λ (_ : Packet). length s ≤ 70000) (reading true s) p

@@ -3,7 +3,7 @@
 use Prim.Native.Nat.{ℕ}
 use mathlib.Core.Path.{_≡_}
 use mathlib.Core.List.{List}
-use Rattle.refusal.specs.Answer.{written, outcome}
+use Rattle.refusal.specs.Answer.{written, outcome, Answer}
 use Rattle.refusal.specs.declared.Outcome.{Outcome}
 use Rattle.refusal.specs.declared.Written.{Written}
 use Rattle.decimal.specs.Decimal.{decimalOf}
@@ -15,6 +15,7 @@ use Rattle.block_value.specs.Answers.{built, blockRead, sized}
 use Rattle.judging.specs.Judge.{judged}
 use Rattle.option_reading.specs.Answers.{foundOf}
 use Rattle.reading.specs.Reading.{decoded}
+use Rattle.framing.specs.Framing.{Converts}
 use Rattle.splicing.specs.Edited.{edited}
 use Rattle.typed_options.specs.Getters.{observed}
 use Rattle.register.specs.Check.{checked}
@@ -29,6 +30,12 @@ TellsApart {A} f = (x y : A) → f x ≡ f y → x ≡ y
 -- An equation has one answer.
 abbrev pub OneAnswer : Type 1
 OneAnswer = (A B : Type 0) (f : A → B) → TellsApart f → (d : B) (x y : A) → f x ≡ d → f y ≡ d → x ≡ y
+
+-- A conversion to a frame, or back from one, has one answer and leaves one output.
+abbrev pub OneConversion : Type 0
+OneConversion =
+    (a : Answer (List ℕ)) (old : List ℕ) (r q : Written) (new also : List ℕ) → Converts a old r new → Converts a old q also
+    → (r ≡ q) × (new ≡ also)
 
 -- Every definition that a promise tells its answer by. (The other promises name the answer itself.)
 pub record Told : Type 0 where

@@ -8,3 +8,4 @@ pub mod RoundTrips
 pub mod Register
 pub mod Padded
 pub mod Plans
+pub mod Frames

@@ -23,6 +23,7 @@ use Rattle.packet.specs.Packet.{newPacket}
 use Rattle.packet.specs.declared.Packet.{Packet}
 use Rattle.reading.specs.Reading.{FromBytes}
 use Rattle.reading.specs.declared.Decoded.{Decoded}
+use Rattle.framing.specs.Framing.{Converts}
 use Rattle.splicing.specs.Edited.{Edits}
 use Rattle.splicing.specs.declared.Edited.{Edited}
 use Rattle.typed_options.specs.Setters.{Sets}
@@ -40,6 +41,10 @@ abbrev pub OutputKept : Type 0
 OutputKept =
     (a : Answer ℕ) (at : ℕ) (bytes old : List ℕ) (r : Written) (new : List ℕ) → written r ≡ a → new ≡ after a at bytes old
     → (e : Refusal) → r ≡ Refused e → new ≡ old
+
+-- A refused conversion to a frame, or back from one, leaves the output as it was.
+abbrev pub FrameOutputKept : Type 0
+FrameOutputKept = (a : Answer (List ℕ)) (old : List ℕ) (r : Written) (new : List ℕ) → Converts a old r new → (e : Refusal) → r ≡ Refused e → new ≡ old
 
 -- It is done, or it is refused and what stands beside the refusal is the old value.
 abbrev pub DoneOr : Outcome → {A : Type 0} → A → A → Type 0

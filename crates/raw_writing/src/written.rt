@@ -3,15 +3,13 @@ use packet::Packet;
 use packet_requests::limit_at;
 use packet_requests::write as write_packet;
 use raw_words::raw_at;
-use refusal::Written;
+use rooms::fill;
+use rooms::told;
 use telling::Told;
 use words::finished;
 use words::number_at;
 use words::part;
 use writing::Limit;
-
-// What every byte of the output is before.
-const BEFORE: u8 = 0xAA;
 
 // write-raw LIMIT ROOM RAW
 pub fn write(strict: bool, line: &[u8], at: usize, store: &mut [u8], room: &mut [u8]) -> Told {
@@ -36,33 +34,5 @@ pub fn write(strict: bool, line: &[u8], at: usize, store: &mut [u8], room: &mut 
 fn write_in(strict: bool, limit: Limit, packet: Packet, store: &[u8], room: &mut [u8]) -> Told {
     fill(room);
     let written = write_packet(strict, limit, packet, store, room);
-    Told::written(written).ending(are_before(room, length_of(written)))
-}
-
-fn fill(room: &mut [u8]) {
-    let mut i = 0;
-    while i < room.len() {
-        room[i] = BEFORE;
-        i = i + 1;
-    }
-}
-
-// How many bytes were written.
-fn length_of(written: Written) -> usize {
-    match written {
-        Written::Length(length) => length,
-        Written::Refused(_) => 0,
-    }
-}
-
-// Whether the bytes from a place on are as they were before.
-fn are_before(room: &[u8], from: usize) -> bool {
-    let mut i = from;
-    while i < room.len() {
-        if room[i] != BEFORE {
-            return false;
-        }
-        i = i + 1;
-    }
-    true
+    told(written, room)
 }

@@ -22,6 +22,7 @@ pub enum Refusal {
     BadText,
     BadOption,
     BlockNumber,
+    BadFrame,
     BadPlan,
 }
 
@@ -48,6 +49,7 @@ impl Refusal {
             Refusal::BadText => 15,
             Refusal::BadOption => 16,
             Refusal::BlockNumber => 17,
+            Refusal::BadFrame => 20,
             Refusal::BadPlan => 22,
         }
     }

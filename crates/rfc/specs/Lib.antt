@@ -1,4 +1,5 @@
 pub mod Message
+pub mod Frame
 pub mod Uint
 pub mod Block
 pub mod Text

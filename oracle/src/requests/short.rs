@@ -31,6 +31,7 @@ pub fn strict(put: &mut dyn FnMut(String)) {
     }
     registers(put);
     planned::small(put);
+    frames(put);
 }
 
 /// All byte strings of at most two bytes.
@@ -189,6 +190,34 @@ fn blocks(put: &mut dyn FnMut(String)) {
     }
     for exponent in 0..=7 {
         put(format!("block-size {exponent}"));
+    }
+}
+
+/// Every frame of up to two bytes; and, over bytes that tell, what follows a code and the header of a datagram. Every first
+/// byte of a datagram, and every room beside what a message takes.
+fn frames(put: &mut dyn FnMut(String)) {
+    const TELLING: [u8; 12] = [0x00, 0x01, 0x0d, 0x0e, 0x0f, 0x10, 0x61, 0xd0, 0xe0, 0xf0, 0xf1, 0xff];
+    two_bytes(|frame| put(format!("frame-back 71000 1 258 {frame}")));
+    for (head, longest) in
+        [("0100", 2), ("0101", 2), ("1000", 2), ("1001", 2), ("0201", 3), ("1101", 3), ("2001", 3), ("2101", 3)]
+    {
+        strings_over(&TELLING, longest, &mut |rest| {
+            put(format!("frame-back 71000 2 4660 {head}{}", hex(rest).replace('-', "")));
+        });
+    }
+    strings_over(&TELLING, 3, &mut |rest| {
+        put(format!("frame-out 71000 40010001{}", hex(rest).replace('-', "")));
+    });
+    for first in 0..=255 {
+        for code in [0, 1, 69] {
+            let head = hex(&[first, code]);
+            put(format!("frame-out 71000 {head}7b2d"));
+            put(format!("frame-out 71000 {head}7b2d6162636465666768b161ff62"));
+        }
+    }
+    for room in 0..=16 {
+        put(format!("frame-out {room} 4401000120304050b474657374"));
+        put(format!("frame-back {room} 0 1 540120304050b474657374"));
     }
 }
 

@@ -60,13 +60,14 @@ impl Varied {
         if self.made % LONG == 1 && self.made / LONG < LONG_MOST {
             return self.long_strict();
         }
-        match self.random.below(22) {
+        match self.random.below(27) {
             0..=4 => format!("register {}", self.registered().asked()),
             5..=8 => self.write_strict(),
             9 => self.full_read(),
             10 | 11 => self.last_number_read(),
             12 | 13 => self.to_uint(),
             14..=17 => self.plan(),
+            18..=22 => self.frame(),
             _ => self.block_strict(),
         }
     }
@@ -188,12 +189,16 @@ impl Varied {
         format!("read {}{}", hex(&datagram), self.random.of(&TAILS))
     }
 
-    /// As many options as a packet holds, or up to two fewer or more.
     fn full_read(&mut self) -> String {
+        format!("read {}", hex(&self.full_datagram()))
+    }
+
+    /// As many options as a packet holds, or up to two fewer or more.
+    pub fn full_datagram(&mut self) -> Vec<u8> {
         let count = self.random.near(&[MOST_OPTIONS]);
         let mut parts = self.parts_of(count);
         parts.token.truncate(8);
-        format!("read {}", hex(&parts.datagram()))
+        parts.datagram()
     }
 
     /// Any option after one whose number is beside the largest.
@@ -212,7 +217,7 @@ impl Varied {
         self.parts().datagram()
     }
 
-    fn damaged(&mut self) -> Vec<u8> {
+    pub fn damaged(&mut self) -> Vec<u8> {
         const TELLING: [u8; 12] = [0x00, 0x01, 0x0d, 0x0e, 0x0f, 0x1f, 0xd0, 0xdd, 0xe0, 0xee, 0xf0, 0xff];
         let mut bytes = self.datagram();
         for _ in 0..=self.random.below(3) {
@@ -231,7 +236,7 @@ impl Varied {
     }
 
     /// A datagram byte by byte: options with any nibbles and extensions.
-    fn stream(&mut self) -> Vec<u8> {
+    pub fn stream(&mut self) -> Vec<u8> {
         let token = self.random.below(9);
         let mut bytes = vec![0x40 + token as u8, self.random.byte()];
         bytes.extend(self.random.bytes(2 + token));
@@ -523,12 +528,14 @@ impl Varied {
         self.write_of(&parts)
     }
 
-    /// A datagram, a store, a value or an image beside the longest.
+    /// A datagram, a store, a value, an image or a frame beside the longest.
     fn long_strict(&mut self) -> String {
         let mut parts = self.parts();
         let aim = self.random.near(&[STORE]);
-        if self.random.one_in(8) {
-            return self.long_plan();
+        match self.random.below(8) {
+            0 => return self.long_plan(),
+            1 | 2 => return self.long_frame(),
+            _ => (),
         }
         if self.random.one_in(3) {
             let mut datagram = parts.datagram();

@@ -2,8 +2,8 @@
 use Prim.Native.Nat.{_-_, _≤_}
 use native.Mathlib.Omega.{arith}
 use lib.ListN.{length}
-use Rattle.raw_writing.proofs.written.are_before.Statement.{statement}
-use Rattle.raw_writing.proofs.written.are_before.Tie as tie
+use Rattle.rooms.proofs.are_before.Statement.{statement}
+use Rattle.rooms.proofs.are_before.Tie as tie
 
 abbrev Inv-loop : tie.InvT-loop
 Inv-loop room from i₀ i = i ≤ i

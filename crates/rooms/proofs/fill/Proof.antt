@@ -4,8 +4,8 @@ use mathlib.Core.Path.{_≡_}
 use native.Mathlib.Omega.{arith}
 use lib.ListN.{length}
 use borrow.Author.Needs.{needs}
-use Rattle.raw_writing.proofs.written.fill.Statement.{statement}
-use Rattle.raw_writing.proofs.written.fill.Tie as tie
+use Rattle.rooms.proofs.fill.Statement.{statement}
+use Rattle.rooms.proofs.fill.Tie as tie
 
 abbrev Inv-loop : tie.InvT-loop
 Inv-loop room₀ i₀ room i = length room ≡ length room₀

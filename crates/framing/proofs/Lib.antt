@@ -1,0 +1,5 @@
+pub mod Moved
+pub mod Judged
+pub mod Heads
+pub mod Converting
+pub mod Back
