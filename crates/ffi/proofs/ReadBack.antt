@@ -1,20 +1,18 @@
 -- What reading hands over leads back to the packet that was read, so writing it is copying the datagram.
-use Prim.Native.Nat.{ℕ, zero, suc, _+_, _-_, _/_, _%_, _≤_}
+use Prim.Native.Nat.{ℕ, zero, suc, _+_, _-_, _/_, _%_}
 use mathlib.Core.Path.{_≡_, refl, sym, ap, subst, _∙_}
-use mathlib.Core.Bool.{Bool, not}
+use mathlib.Core.Bool.{Bool}
 use mathlib.Core.List.{List, _++_}
 use native.Mathlib.Omega.{arith}
-use lib.Dec.{ltb, eqb}
 use lib.ListN.{length, drop, getD, replicate}
 use lib.Seq.{drop-append-seam}
 use borrow.Author.Tests.{le-ltb}
-use Rattle.ground.specs.Choice.{both, either}
 use Rattle.ground.specs.Part.{Bytes}
 use Rattle.ground.proofs.Choice.{on, on-lt, on-le, on-eq}
 use Rattle.refusal.specs.Answer.{Answer, given, refused, onward}
 use Rattle.refusal.proofs.Answers.{Given, on-given, given-onward}
 use Rattle.class.specs.Class.{byteOf, classOf}
-use Rattle.header.specs.Header.{headerOf, rawIn, versionOf, tokenOf}
+use Rattle.header.specs.Header.{headerOf, tokenOf}
 use Rattle.header.specs.declared.HeaderRaw.{HeaderRaw}
 use Rattle.class.proofs.Class.{class-back}
 use Rattle.packet.specs.Packet.{none, recordsOf}
@@ -22,7 +20,8 @@ use Rattle.packet.specs.declared.Packet.{Packet}
 use Rattle.judging.proofs.Good.{good}
 use Rattle.option_reading.specs.Option.{Place, ended, option, extended, valueAt, lengthAt, optionAt, placeAt, end}
 use Rattle.reading.specs.Options.{Tail, options, before}
-use Rattle.reading.specs.Reading.{longest, packetOf, finished, afterHeader, reading}
+use Rattle.reading.specs.Reading.{longest, packetOf, reading}
+use Rattle.reading.proofs.Taken.{Taken, taken}
 use Rattle.reading.proofs.Accept.{records-found}
 use Rattle.reading.proofs.Sound.{given-place}
 use Rattle.reading.proofs.Kept.{Kept, kept}
@@ -47,10 +46,6 @@ Spare (option r) = r .spare ≡ 0
 ever : {A B : Type 0} (Q : B → Type 0) (a : Answer A) (next : A → Answer B) → ((v : A) → Given Q (next v)) → Given Q (onward a next)
 ever Q (given v) next f = f v
 ever Q (refused k) next f = tt
-
-always : {A B : Type 0} (a : Answer A) → B → Given (λ _. B) a
-always (given v) b = b
-always (refused k) b = tt
 
 spare-value : (s : List ℕ) (number start len : ℕ) → Given Spare (valueAt s number start len)
 unfolding valueAt
@@ -86,43 +81,29 @@ packet-filled s raw t h =
       rest = drop-append-seam (t .records) (replicate (128 - length (t .records)) none);
     }
 
-after-filled : (strict : Bool) (s : List ℕ) (raw : HeaderRaw) → Given Filled (afterHeader strict s raw)
-unfolding afterHeader finished
-after-filled strict s raw =
-    on (Given Filled) (both strict (not (eqb (versionOf raw) 1))) (λ _. tt)
-    (λ _. on (Given Filled) (either (ltb 8 (tokenOf raw)) (ltb (length s) (4 + tokenOf raw))) (λ _. tt)
-    (λ _. on (Given Filled) (both strict (both (eqb (raw .code) 0) (either (ltb 4 (length s)) (not (eqb (tokenOf raw) 0))))) (λ _. tt)
-    (λ _. given-onward SparedTail Filled (options (longest strict) s 128 0 (4 + tokenOf raw)) _ (spared (longest strict) s 128 0 (4 + tokenOf raw))
-    (λ t h. on (Given Filled) (both strict (both (t .marked) (eqb (t .payload) (length s)))) (λ _. tt) (λ _. packet-filled s raw t h)))))
-
-filled : (strict : Bool) (s : List ℕ) → Given Filled (reading strict s)
-unfolding reading
-filled strict s =
-    on-lt (Given Filled) 70000 (length s) (λ _. tt)
-    (λ _. ever Filled (rawIn s) (afterHeader strict s) (after-filled strict s))
-
-fits : (strict : Bool) (s : List ℕ) → Given (λ _. length s ≤ 70000) (reading strict s)
-unfolding reading
-fits strict s =
-    on-lt (Given (λ _. length s ≤ 70000)) 70000 (length s) (λ _. tt)
-    (λ h. always (onward (rawIn s) (afterHeader strict s)) h)
-
 module _ (strict : Bool) (s : List ℕ) (b : Bytes s) (p : Packet) (e : reading strict s ≡ given p) where
+  read-taken : Taken strict s p
+  read-taken = on-given (Taken strict s) (reading strict s) p (taken strict s b) e
+
+  filled : Filled p
+  filled =
+      let k = read-taken in
+      let from = 4 + tokenOf (k .raw) in
+      rw (k .packet) (packet-filled s (k .raw) (k .tail) (on-given SparedTail (options (longest strict) s 128 0 from) (k .tail) (spared (longest strict) s 128 0 from) (k .options)))
+
   -- A packet that was read is made.
   pub read-made : Made p
   read-made =
       let k : Kept s p = on-given (Kept s) (reading strict s) p (kept strict s b) e in
-      let f : Filled p = on-given Filled (reading strict s) p (filled strict s) e in
       let g = good (length s) p (k .0) in
-      record { version = omega (arith, g .version); class = f .class; count = g .count; spare = f .spare; rest = f .rest }
+      record { version = omega (arith, g .version); class = filled .class; count = g .count; spare = filled .spare; rest = filled .rest }
 
   -- Its flat form, with whatever stands after it, is taken for that packet.
   pub read-back : (rest : List ℕ) → packetOver s (flat p ++ rest) ≡ given p
   unfolding packetOver
   read-back rest =
       let k : Kept s p = on-given (Kept s) (reading strict s) p (kept strict s b) e in
-      let h : length s ≤ 70000 = on-given (λ _. length s ≤ 70000) (reading strict s) p (fits strict s) e in
-      rw (le-ltb 70000 (length s) h) (longer (flat p) rest p (unflat-flat p (k .1) read-made))
+      rw (le-ltb 70000 (length s) (read-taken .fits)) (longer (flat p) rest p (unflat-flat p (k .1) read-made))
 
   -- So the flat form of what was read is written as the datagram is copied.
   pub write-copies : (mode : Bool) (room : ℕ) (rest : List ℕ) → copying mode room s (packetOver s (flat p ++ rest)) ≡ copying mode room s (reading strict s)

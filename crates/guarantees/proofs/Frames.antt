@@ -30,7 +30,8 @@ use Rattle.framing.proofs.Back.{unframed-frame, came-back}
 use Rattle.guarantees.specs.StrictReading.{IsLayoutOf}
 use Rattle.guarantees.specs.StrictWriting.{Wrote}
 use Rattle.guarantees.specs.Frames.{IsFrameOf, renamed, OneMessage, Out, Back, OutThenBack, BackThenOut}
-use Rattle.guarantees.proofs.RoundTrips.{front, accepted-short}
+use Rattle.reading.proofs.Taken.{Taken, taken}
+use Rattle.guarantees.proofs.RoundTrips.{front}
 
 -- What a conversion wrote, and that it wrote something.
 module _ (a : Answer (List ℕ)) (old : List ℕ) (r : Written) (new : List ℕ) (promise : Converts a old r new) where
@@ -84,7 +85,7 @@ record Holds (s : List ℕ) (p : Packet) : Type 0 where
 holds : (s : List ℕ) → Bytes s → (p : Packet) → reading true s ≡ given p → Holds s p
 holds s b p e =
     let a = on-given (λ (q : Packet). WellFormed (meaning s q) × (layout (meaning s q) ≡ s)) (reading true s) p (accepted s b) e in
-    record { message = record { well-formed = a .0; bytes = a .1 }; short = accepted-short s p e }
+    record { message = record { well-formed = a .0; bytes = a .1 }; short = on-given (Taken true s) (reading true s) p (taken true s b) e .fits }
 
 record FramedFrom (s f : List ℕ) : Type 0 where
   message : Message

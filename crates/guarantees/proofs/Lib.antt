@@ -3,6 +3,7 @@ pub mod Refusals
 pub mod WriterRefusals
 pub mod DefaultLimit
 pub mod StrictReading
+pub mod Modes
 pub mod StrictWriting
 pub mod RoundTrips
 pub mod Register
@@ -11,3 +12,4 @@ pub mod Plans
 pub mod Frames
 pub mod Samples
 pub mod FrameSamples
+pub mod LongSamples

@@ -20,7 +20,7 @@ pub record Sample : Type 0 where
   pub strict : Answer Message
 
 -- What a mode answers to a datagram.
-pub answers : Bool → List ℕ → Answer Message
+unfoldable pub answers : Bool → List ℕ → Answer Message
 answers strict s = onward (reading strict s) (λ p. given (meaning s p))
 
 -- A confirmable message with the id 1 and no token.
@@ -48,6 +48,14 @@ table =
     ∷ same (0x40 ∷ 0x01 ∷ 0x00 ∷ 0x01 ∷ 0xE0 ∷ 0xFE ∷ 0xF2 ∷ 0x15 ∷ []) (refused 3)
     ∷ record { bytes = 0x00 ∷ 0x01 ∷ 0x00 ∷ 0x01 ∷ []; plain = message 0 1 [] []; strict = refused 7 }
     ∷ record { bytes = 0x40 ∷ 0x00 ∷ 0x00 ∷ 0x01 ∷ 0xFF ∷ 0x61 ∷ []; plain = message 1 0 [] (0x61 ∷ []); strict = refused 8 }
+    ∷ record { bytes = 0x80 ∷ 0x01 ∷ 0x00 ∷ 0x01 ∷ []; plain = message 2 1 [] []; strict = refused 7 }
+    ∷ record { bytes = 0x00 ∷ 0x00 ∷ 0x00 ∷ 0x01 ∷ 0xFF ∷ []; plain = message 0 0 [] []; strict = refused 7 }
+    ∷ record { bytes = 0x41 ∷ 0x00 ∷ 0x00 ∷ 0x01 ∷ 0x61 ∷ []; plain = given (record { version = 1; type = 0; code = 0; id = 1; token = 0x61 ∷ []; options = []; payload = [] }); strict = refused 8 }
+    ∷ record { bytes = 0x40 ∷ 0x00 ∷ 0x00 ∷ 0x01 ∷ 0x00 ∷ []; plain = message 1 0 (option 0 [] ∷ []) []; strict = refused 8 }
+    ∷ record { bytes = 0x40 ∷ 0x00 ∷ 0x00 ∷ 0x01 ∷ 0xFF ∷ []; plain = message 1 0 [] []; strict = refused 8 }
+    ∷ record { bytes = 0x0F ∷ 0x00 ∷ 0x00 ∷ 0x01 ∷ []; plain = refused 2; strict = refused 7 }
+    ∷ record { bytes = 0x40 ∷ 0x00 ∷ 0x00 ∷ 0x01 ∷ 0xF0 ∷ []; plain = refused 3; strict = refused 8 }
+    ∷ record { bytes = 0x40 ∷ 0x01 ∷ 0x00 ∷ 0x01 ∷ 0xE0 ∷ 0xFE ∷ 0xF2 ∷ 0x1E ∷ 0xFE ∷ 0xF3 ∷ []; plain = refused 4; strict = refused 3 }
     ∷ []
 
 -- The answers that a row states, and those that the two modes give.

@@ -26,7 +26,7 @@ done d (given p) e h = ap given (sym (ap (λ (r : Beside Packet). r .value) e))
 done d (refused k) e h = let no : outcome Done ≡ refused k = ap outcome (sym h) ∙ ap (λ (r : Beside Packet). r .answer) e in cc
 
 -- An accepted datagram gives Done, and its packet.
-gives : (d : Decoded) (p : Packet) → decoded d ≡ beside newPacket (given p) → (d .outcome ≡ Done) × (d .packet ≡ p)
+pub gives : (d : Decoded) (p : Packet) → decoded d ≡ beside newPacket (given p) → (d .outcome ≡ Done) × (d .packet ≡ p)
 gives d p e = (one-outcome (d .outcome) Done (ap (λ (r : Beside Packet). r .answer) e), ap (λ (r : Beside Packet). r .value) e)
 
 -- A message with this layout is what the answer means.

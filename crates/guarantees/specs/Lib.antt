@@ -3,6 +3,7 @@ pub mod Refusals
 pub mod WriterRefusals
 pub mod DefaultLimit
 pub mod StrictReading
+pub mod Modes
 pub mod StrictWriting
 pub mod RoundTrips
 pub mod Register

@@ -1,19 +1,20 @@
--- An accepted datagram: what it means is well-formed, and its bytes are that message's layout.
+-- An accepted datagram: its bytes are the layout of what it means, and one FF more where plain accepts a bare marker; what
+-- strict accepts means a well-formed message.
 use Prim.Native.Nat.{ℕ, _+_, _-_, _*_, _/_, _%_, _<_, _≤_}
-use mathlib.Core.Path.{_≡_, refl, sym, _∙_}
-use mathlib.Core.Bool.{Bool, true, false, not}
-use mathlib.Core.List.{List, [], _∷_, _++_, map}
+use mathlib.Core.Path.{_≡_, refl, sym, ap, _∙_}
+use mathlib.Core.Bool.{Bool, true, false}
+use mathlib.Core.List.{List, [], _∷_, _++_, map, append-assoc, append-nil}
 use native.Mathlib.Omega.{arith}
 use lib.ListN.{length, take, drop, replicate, length-drop, length-map, take-append-drop, drop-of-length-le}
 use lib.Seq.{take-append-seam, take-all}
-use lib.Dec.{ltb, eqb}
-use borrow.Author.Tests.{ltb-false, eqb-true, eqb-false, not-false, eq-eqb}
-use Rattle.ground.specs.Choice.{both, either}
+use lib.Dec.{eqb}
+use borrow.Author.Tests.{eq-eqb, ne-eqb}
+use Rattle.ground.specs.Choice.{both}
 use Rattle.rfc.specs.Message.{Opt, Message, WellFormed, Bare, layout, headerLayout, optionsLayout, payloadLayout, optionLayout}
 use Rattle.ground.specs.Part.{Bytes}
-use Rattle.ground.proofs.Choice.{on, on-lt, neither, not-both}
-use Rattle.refusal.specs.Answer.{Answer, given, refused}
-use Rattle.header.specs.Header.{headerOf, rawIn, versionOf, tokenOf}
+use Rattle.ground.proofs.Choice.{by-eq}
+use Rattle.refusal.proofs.Answers.{Given, on-given}
+use Rattle.header.specs.Header.{headerOf, versionOf, tokenOf}
 use Rattle.header.specs.declared.HeaderRaw.{HeaderRaw}
 use Rattle.class.proofs.Class.{byte-back}
 use Rattle.header.proofs.Raw.{bytes-back, number-back}
@@ -21,23 +22,9 @@ use Rattle.packet.specs.Packet.{bytesIn, recordsOf, none}
 use Rattle.packet.specs.Meaning.{optionOf, meaning}
 use Rattle.packet.specs.declared.Packet.{Packet}
 use Rattle.reading.specs.Options.{Tail, options}
-use Rattle.reading.specs.Reading.{packetOf, finished, afterHeader, reading}
-use Rattle.refusal.proofs.Answers.{Given, given-onward}
+use Rattle.reading.specs.Reading.{longest, packetOf, reading}
 use Rattle.reading.proofs.Sound.{Follows, follows, marks, inside-bytes, inside-length, inside-are, inside-split}
-use Rattle.ground.proofs.Part.{byte-at}
-
--- A raw header that was read: its fields have their bits, and four bytes are there.
-pub record RawSmall (s : List ℕ) (raw : HeaderRaw) : Type 0 where
-  pub long : 4 ≤ length s
-  pub first : raw .«ver_type_tkl» < 256
-  pub code : raw .code < 256
-  pub id : raw .«message_id» ≤ 65535
-
-pub raw-small : (s : List ℕ) → Bytes s → Given (RawSmall s) (rawIn s)
-unfolding rawIn
-raw-small s b =
-    on-lt (Given (RawSmall s)) (length s) 4 (λ h. tt)
-    (λ h. record { long = h; first = byte-at s 0 b; code = byte-at s 1 b; id = omega (arith, byte-at s 2 b, byte-at s 3 b) })
+use Rattle.reading.proofs.Taken.{Taken, taken, bare, given-map}
 
 -- The records of a packet that was read are those that were found.
 pub records-found : (s : List ℕ) (raw : HeaderRaw) (t : Tail) → recordsOf (packetOf s raw t) ≡ t .records
@@ -80,24 +67,20 @@ pub payload-some : (l : List ℕ) → 0 < length l → payloadLayout l ≡ 255 �
 payload-some [] h = absurd (omega arith)
 payload-some (x ∷ l) h = refl
 
--- A payload that is marked, and not alone, or none: its layout is what ends the datagram.
+-- The payload's layout, and FF more where the marker is bare, is what ends the datagram.
 payload-layout : (s : List ℕ) (marked : Bool) (payload : ℕ) → payload ≤ length s → (marked ≡ false → payload ≡ length s)
-    → both marked (eqb payload (length s)) ≡ false → payloadLayout (bytesIn s payload (length s - payload)) ≡ marks marked (drop payload s)
-payload-layout s true payload inside unmarked alone =
-    let more : 0 < length (drop payload s) = rw length-drop (omega (arith, eqb-false payload (length s) alone)) in
-    rw (rest-bytes s payload inside) (payload-some (drop payload s) more)
-payload-layout s false payload inside unmarked alone =
+    → payloadLayout (bytesIn s payload (length s - payload)) ++ marks (both marked (eqb payload (length s))) [] ≡ marks marked (drop payload s)
+payload-layout s true payload inside unmarked =
+    by-eq payload (length s)
+    (λ e.
+    let none-left : drop payload s ≡ [] = drop-of-length-le s {i = payload} (omega arith) in
+    rw (rest-bytes s payload inside, none-left, eq-eqb payload (length s) e) refl)
+    (λ e.
+    let more : 0 < length (drop payload s) = rw length-drop (omega (arith, e)) in
+    rw (rest-bytes s payload inside, payload-some (drop payload s) more, ne-eqb payload (length s) e) (append-nil (255 ∷ drop payload s)))
+payload-layout s false payload inside unmarked =
     let none-left : drop payload s ≡ [] = drop-of-length-le s {i = payload} (omega (arith, unmarked refl)) in
     rw (rest-bytes s payload inside, none-left) refl
-
--- What follows a header is told: the tests that were passed, and the options.
-record Passed (s : List ℕ) (raw : HeaderRaw) (t : Tail) : Type 0 where
-  version : versionOf raw ≡ 1
-  token-short : tokenOf raw ≤ 8
-  token-inside : 4 + tokenOf raw ≤ length s
-  empty : raw .code ≡ 0 → length s ≤ 4
-  follows : Follows s 128 0 (4 + tokenOf raw) t
-  alone : both (t .marked) (eqb (t .payload) (length s)) ≡ false
 
 -- No bytes are the layout of no options and no payload.
 no-options : (n : ℕ) (os : List Opt) (rest : List ℕ) → [] ≡ optionsLayout n os ++ rest → (os ≡ []) × (rest ≡ [])
@@ -109,94 +92,74 @@ no-payload : (marked : Bool) (l : List ℕ) → marks marked l ≡ [] → l ≡ 
 no-payload true l e = cc
 no-payload false l e = e
 
-abbrev Accepts : List ℕ → Packet → Type 0
-Accepts s p = WellFormed (meaning s p) × (layout (meaning s p) ≡ s)
+-- What either mode accepts.
+module _ (strict : Bool) (s : List ℕ) (b : Bytes s) (p : Packet) (k : Taken strict s p) where
+  pub found : Follows s 128 0 (4 + tokenOf (k .raw)) (k .tail)
+  found =
+      on-given (Follows s 128 0 (4 + tokenOf (k .raw))) (options (longest strict) s 128 0 (4 + tokenOf (k .raw))) (k .tail)
+      (follows (longest strict) s b 128 0 (4 + tokenOf (k .raw)) (k .token-inside)) (k .options)
 
-module _ (s : List ℕ) (b : Bytes s) (raw : HeaderRaw) (small : RawSmall s raw) (is : rawIn s ≡ given raw) (t : Tail) (p : Passed s raw t) where
-  head-laid : headerLayout (meant s raw t) ≡ take 4 s
+  pub means : meaning s p ≡ meant s (k .raw) (k .tail)
+  means = ap (meaning s) (k .packet) ∙ is-meant s (k .raw) (k .tail)
+
+  head-laid : headerLayout (meant s (k .raw) (k .tail)) ≡ take 4 s
   unfolding headerLayout meant
   head-laid =
-      let v : ℕ = raw .«ver_type_tkl» in
+      let v : ℕ = k .raw .«ver_type_tkl» in
       let first : v / 64 * 64 + v / 16 % 4 * 16 + v % 16 ≡ v = omega arith in
-      rw (inside-length s 4 (tokenOf raw) (p .token-inside), first) (bytes-back s raw b is)
+      rw (inside-length s 4 (tokenOf (k .raw)) (k .token-inside), first) (bytes-back s (k .raw) b (k .header))
 
-  body-laid : bytesIn s 4 (tokenOf raw) ++ (optionsLayout 0 (map (optionOf s) (t .records)) ++ payloadLayout (bytesIn s (t .payload) (length s - t .payload))) ≡ drop 4 s
-  body-laid =
-      rw (payload-layout s (t .marked) (t .payload) (p .follows .inside) (p .follows .unmarked) (p .alone), ← p .follows .bytes)
-      (sym (inside-split s 4 (tokenOf raw) (p .token-inside)))
-
-  laid-out : layout (meant s raw t) ≡ s
+  -- The datagram is the layout of what it means, and one FF more where a bare marker ends it.
+  pub laid-out : layout (meant s (k .raw) (k .tail)) ++ marks (bare s (k .tail)) [] ≡ s
   unfolding layout meant
-  laid-out = rw (head-laid, body-laid) (take-append-drop 4 s)
+  laid-out =
+      let t = k .tail in
+      let token = bytesIn s 4 (tokenOf (k .raw)) in
+      let os = optionsLayout 0 (map (optionOf s) (t .records)) in
+      let payload = payloadLayout (bytesIn s (t .payload) (length s - t .payload)) in
+      let body : token ++ (os ++ (payload ++ marks (bare s t) [])) ≡ drop 4 s =
+      rw (payload-layout s (t .marked) (t .payload) (found .inside) (found .unmarked), ← found .bytes)
+      (sym (inside-split s 4 (tokenOf (k .raw)) (k .token-inside))) in
+      rw (head-laid, append-assoc (take 4 s) (token ++ (os ++ payload)) (marks (bare s t) []), append-assoc token (os ++ payload) (marks (bare s t) []), append-assoc os payload (marks (bare s t) []), body) (take-append-drop 4 s)
 
-  nothing-more : raw .code ≡ 0 → Bare (meant s raw t)
+-- What strict accepts besides.
+module _ (s : List ℕ) (b : Bytes s) (p : Packet) (k : Taken true s p) where
+  nothing-more : k .raw .code ≡ 0 → Bare (meant s (k .raw) (k .tail))
   unfolding meant
   nothing-more e =
-      let short : length s ≤ 4 = p .empty e in
-      let no-token : tokenOf raw ≡ 0 = omega (arith, p .token-inside) in
-      let none-left : drop (4 + tokenOf raw) s ≡ [] = drop-of-length-le s {i = 4 + tokenOf raw} (omega arith) in
-      let nothing = no-options 0 (map (optionOf s) (t .records)) (marks (t .marked) (drop (t .payload) s)) (sym none-left ∙ p .follows .bytes) in
+      let f = found true s b p k in
+      let token = tokenOf (k .raw) in
+      let short : length s ≤ 4 = k .empty refl e in
+      let no-token : token ≡ 0 = omega (arith, k .token-inside) in
+      let none-left : drop (4 + token) s ≡ [] = drop-of-length-le s {i = 4 + token} (omega arith) in
+      let nothing = no-options 0 (map (optionOf s) (k .tail .records)) (marks (k .tail .marked) (drop (k .tail .payload) s)) (sym none-left ∙ f .bytes) in
       record {
-        token = rw (inside-bytes s 4 (tokenOf raw) (p .token-inside), no-token) refl;
+        token = rw (inside-bytes s 4 token (k .token-inside), no-token) refl;
         options = nothing .0;
-        payload = rest-bytes s (t .payload) (p .follows .inside) ∙ no-payload (t .marked) (drop (t .payload) s) (nothing .1);
+        payload = rest-bytes s (k .tail .payload) (f .inside) ∙ no-payload (k .tail .marked) (drop (k .tail .payload) s) (nothing .1);
       }
 
-  well-formed : WellFormed (meant s raw t)
+  well-formed : WellFormed (meant s (k .raw) (k .tail))
   unfolding meant
   well-formed =
+      let f = found true s b p k in
       record {
-        version = p .version;
+        version = k .version refl;
         type = omega arith;
-        code = omega (arith, small .code);
-        id = small .id;
-        token-length = rw (inside-length s 4 (tokenOf raw) (p .token-inside)) (p .token-short);
-        token = inside-are s 4 (tokenOf raw) b (p .token-inside);
-        count = rw length-map (p .follows .count);
-        rising = p .follows .rising;
-        options = p .follows .options;
-        payload = inside-are s (t .payload) (length s - t .payload) b (omega (arith, p .follows .inside));
+        code = omega (arith, k .small .code);
+        id = k .small .id;
+        token-length = rw (inside-length s 4 (tokenOf (k .raw)) (k .token-inside)) (k .token-short);
+        token = inside-are s 4 (tokenOf (k .raw)) b (k .token-inside);
+        count = rw length-map (f .count);
+        rising = f .rising;
+        options = f .options;
+        payload = inside-are s (k .tail .payload) (length s - k .tail .payload) b (omega (arith, f .inside));
         empty = nothing-more;
       }
 
-  accepts : Accepts s (packetOf s raw t)
-  accepts = rw (is-meant s raw t) (well-formed, laid-out)
-
-given-self : {A : Type 0} (P : A → Type 0) (a : Answer A) → Given P a → Given (λ (v : A). P v × (a ≡ given v)) a
-given-self P (given v) h = (h, refl)
-given-self P (refused k) h = tt
-
-after-accepts : (s : List ℕ) → Bytes s → (raw : HeaderRaw) → RawSmall s raw → rawIn s ≡ given raw → Given (Accepts s) (afterHeader true s raw)
-unfolding afterHeader finished
-after-accepts s b raw small is =
-    on (Given (Accepts s)) (not (eqb (versionOf raw) 1)) (λ e. tt)
-    (λ version.
-    on (Given (Accepts s)) (either (ltb 8 (tokenOf raw)) (ltb (length s) (4 + tokenOf raw))) (λ e. tt)
-    (λ token.
-    let t = neither (ltb 8 (tokenOf raw)) (ltb (length s) (4 + tokenOf raw)) token in
-    let inside : 4 + tokenOf raw ≤ length s = ltb-false (length s) (4 + tokenOf raw) (t .1) in
-    on (Given (Accepts s)) (both (eqb (raw .code) 0) (either (ltb 4 (length s)) (not (eqb (tokenOf raw) 0)))) (λ e. tt)
-    (λ empty.
-    given-onward (Follows s 128 0 (4 + tokenOf raw)) (Accepts s) (options 65804 s 128 0 (4 + tokenOf raw)) _
-    (follows 65804 s b 128 0 (4 + tokenOf raw) inside)
-    (λ tail f.
-    on (Given (Accepts s)) (both (tail .marked) (eqb (tail .payload) (length s))) (λ e. tt)
-    (λ alone.
-    accepts s b raw small is tail
-    (record {
-      version = eqb-true (versionOf raw) 1 (not-false (eqb (versionOf raw) 1) version);
-      token-short = ltb-false 8 (tokenOf raw) (t .0);
-      token-inside = inside;
-      empty = λ z. ltb-false 4 (length s) (neither (ltb 4 (length s)) (not (eqb (tokenOf raw) 0)) (not-both (eqb (raw .code) 0) (either (ltb 4 (length s)) (not (eqb (tokenOf raw) 0))) empty (eq-eqb (raw .code) 0 z)) .0);
-      follows = f;
-      alone = alone;
-    }))))))
+  accepts : WellFormed (meaning s p) × (layout (meaning s p) ≡ s)
+  accepts = rw (means true s b p k) (well-formed, sym (append-nil _) ∙ (rw (k .alone refl) at (laid-out true s b p k)))
 
 -- What strict reading accepts means a well-formed message whose layout is the datagram.
 pub accepted : (s : List ℕ) → Bytes s → Given (λ (p : Packet). WellFormed (meaning s p) × (layout (meaning s p) ≡ s)) (reading true s)
-unfolding reading
-accepted s b =
-    on-lt (Given (Accepts s)) 70000 (length s) (λ long. tt)
-    (λ fits.
-    given-onward (λ (raw : HeaderRaw). RawSmall s raw × (rawIn s ≡ given raw)) (Accepts s) (rawIn s) (afterHeader true s)
-    (given-self (RawSmall s) (rawIn s) (raw-small s b)) (λ raw r. after-accepts s b raw (r .0) (r .1)))
+accepted s b = given-map (accepts s b) (reading true s) (taken true s b)

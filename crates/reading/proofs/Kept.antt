@@ -1,16 +1,15 @@
 -- A packet that was read has no bad record over its datagram: later operations never refuse it 11.
 use Prim.Native.Nat.{ℕ, zero, suc, _+_, _-_, _≤_}
 use mathlib.Core.Path.{_≡_, refl, ap, _∙_}
-use mathlib.Core.Bool.{Bool, false, not}
+use mathlib.Core.Bool.{Bool, false}
 use mathlib.Core.List.{List, [], _∷_, _++_}
 use native.Mathlib.Omega.{arith}
 use lib.ListN.{length, replicate, length-append, length-replicate}
-use lib.Dec.{ltb, eqb}
-use borrow.Author.Tests.{le-ltb, ltb-false}
-use Rattle.ground.specs.Choice.{both, either}
+use lib.Dec.{ltb}
+use borrow.Author.Tests.{le-ltb}
 use Rattle.ground.specs.Part.{Bytes}
-use Rattle.ground.proofs.Choice.{on, on-lt, neither, none-of}
-use Rattle.header.specs.Header.{headerOf, rawIn, versionOf, tokenOf}
+use Rattle.ground.proofs.Choice.{none-of}
+use Rattle.header.specs.Header.{headerOf, tokenOf}
 use Rattle.header.specs.declared.HeaderRaw.{HeaderRaw}
 use Rattle.class.proofs.Class.{byte-back}
 use Rattle.packet.specs.Packet.{none, recordsOf}
@@ -21,10 +20,11 @@ use Rattle.packet.specs.declared.OptionRecord.{OptionRecord}
 use Rattle.judging.proofs.Good.{not-bad}
 use Rattle.option_reading.specs.Option.{placeAt, end}
 use Rattle.reading.specs.Options.{Tail, options, before}
-use Rattle.reading.specs.Reading.{packetOf, finished, longest, afterHeader, reading}
-use Rattle.refusal.proofs.Answers.{Given, given-onward}
+use Rattle.reading.specs.Reading.{packetOf, longest, reading}
+use Rattle.refusal.proofs.Answers.{Given, on-given, given-onward}
 use Rattle.reading.proofs.Sound.{Stands, stands, Ended, Laid, given-place}
-use Rattle.reading.proofs.Accept.{records-found, RawSmall, raw-small}
+use Rattle.reading.proofs.Taken.{RawSmall, Taken, taken, given-map}
+use Rattle.reading.proofs.Accept.{records-found}
 
 -- Records that were read: as many as there was room for, not falling, inside the datagram, their numbers of 16 bits.
 record Fine (s : List ℕ) (room number : ℕ) (t : Tail) : Type 0 where
@@ -95,23 +95,12 @@ packet-kept s raw small token inside t f =
       },
     )
 
-after-kept : (strict : Bool) (s : List ℕ) → Bytes s → (raw : HeaderRaw) → RawSmall s raw → Given (Kept s) (afterHeader strict s raw)
-unfolding afterHeader finished
-after-kept strict s b raw small =
-    on (Given (Kept s)) (both strict (not (eqb (versionOf raw) 1))) (λ e. tt)
-    (λ version.
-    on (Given (Kept s)) (either (ltb 8 (tokenOf raw)) (ltb (length s) (4 + tokenOf raw))) (λ e. tt)
-    (λ token.
-    let short : tokenOf raw ≤ 8 = ltb-false 8 (tokenOf raw) (neither (ltb 8 (tokenOf raw)) (ltb (length s) (4 + tokenOf raw)) token .0) in
-    let inside : 4 + tokenOf raw ≤ length s = ltb-false (length s) (4 + tokenOf raw) (neither (ltb 8 (tokenOf raw)) (ltb (length s) (4 + tokenOf raw)) token .1) in
-    on (Given (Kept s)) (both strict (both (eqb (raw .code) 0) (either (ltb 4 (length s)) (not (eqb (tokenOf raw) 0))))) (λ e. tt)
-    (λ empty.
-    given-onward (Fine s 128 0) (Kept s) (options (longest strict) s 128 0 (4 + tokenOf raw)) _ (fine (longest strict) s b 128 0 (4 + tokenOf raw) inside)
-    (λ t f. on (Given (Kept s)) (both strict (both (t .marked) (eqb (t .payload) (length s)))) (λ e. tt) (λ alone. packet-kept s raw small short inside t f)))))
-
 -- A packet that either mode reads.
 pub kept : (strict : Bool) (s : List ℕ) → Bytes s → Given (Kept s) (reading strict s)
-unfolding reading
-kept strict s b =
-    on-lt (Given (Kept s)) 70000 (length s) (λ long. tt)
-    (λ fits. given-onward (RawSmall s) (Kept s) (rawIn s) (afterHeader strict s) (raw-small s b) (λ raw small. after-kept strict s b raw small))
+kept strict s b = given-map one (reading strict s) (taken strict s b)
+  where
+    one : (p : Packet) → Taken strict s p → Kept s p
+    one p k =
+        let from = 4 + tokenOf (k .raw) in
+        let f = on-given (Fine s 128 0) (options (longest strict) s 128 0 from) (k .tail) (fine (longest strict) s b 128 0 from (k .token-inside)) (k .options) in
+        rw (k .packet) (packet-kept s (k .raw) (k .small) (k .token-short) (k .token-inside) (k .tail) f)

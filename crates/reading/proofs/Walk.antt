@@ -33,7 +33,7 @@ ahead-before rs r (refused k) = refl
 
 module _ (longest : ℕ) (s : List ℕ) where
   -- A refusal or an end does not depend on the room; an option does.
-  options-refused : (room number at k : ℕ) → placeAt longest s number at ≡ refused k → options longest s room number at ≡ refused k
+  pub options-refused : (room number at k : ℕ) → placeAt longest s number at ≡ refused k → options longest s room number at ≡ refused k
   unfolding options
   options-refused zero number at k e = rw e
   options-refused (suc room) number at k e = rw e
