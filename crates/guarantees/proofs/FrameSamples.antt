@@ -1,7 +1,7 @@
 -- Sample frames: what goes out, what comes back, and what each is refused for first, as tables with a single statement each.
 use Prim.Native.Nat.{ℕ}
 use mathlib.Core.Path.{_≡_, refl}
-use mathlib.Core.List.{List, [], _∷_, _++_, map}
+use mathlib.Core.List.{List, [], _∷_, map}
 use lib.ListN.{replicate}
 use Rattle.rfc.specs.Message.{optionLayout, nibbleOf, extensionOf}
 use Rattle.rfc.specs.Frame.{lengthNibble, lengthExtension, frameHead, frame}

@@ -3,13 +3,17 @@ pub mod Refusals
 pub mod WriterRefusals
 pub mod DefaultLimit
 pub mod StrictReading
-pub mod Modes
 pub mod StrictWriting
 pub mod RoundTrips
+pub mod Modes
+pub mod Edits
 pub mod Register
 pub mod Padded
-pub mod Plans
+pub mod Blocks
+pub mod Texts
 pub mod Frames
+mod FrameSamples
+pub mod Plans
 pub mod Samples
-pub mod FrameSamples
 pub mod LongSamples
+mod Tied

@@ -18,7 +18,7 @@ use Rattle.packet.specs.Meaning.{meaning}
 use Rattle.reading.specs.Reading.{reading}
 use Rattle.reading.proofs.Complete.{reads-layout}
 use Rattle.reading.proofs.Modes.{readAgain, Seen, seen}
-use Rattle.guarantees.proofs.Samples.{answers}
+use Rattle.guarantees.specs.Samples.{answers}
 
 -- A confirmable GET with the id 1 and one option, of the number 0.
 abbrev holding : List ℕ → Message
@@ -58,7 +58,6 @@ module _ (v : List ℕ) (b : Bytes v) where
   -- Strict reads it, and plain where the value is within 65535.
   parted : (high low : ℕ) → 269 ≤ length v → length v ≤ 65804 → (length v - 269) / 256 ≡ high → (length v - 269) % 256 ≡ low
       → Answers (datagram high low v) (pick (leb (length v) 65535) (given (holding v)) (refused 4)) (given (holding v))
-  unfolding answers
   parted high low long short e f =
       let s = datagram high low v in
       let same : layout (holding v) ≡ s = laid long ∙ (rw (e, f) refl) in

@@ -1,22 +1,29 @@
 -- The refusals of a writer: the order of its tests, walked in each mode.
-use Prim.Native.Nat.{ℕ}
-use mathlib.Core.Path.{sym, ap, _∙_}
+use Prim.Native.Nat.{ℕ, _≤_}
+use mathlib.Core.Path.{_≡_, refl, sym, ap, _∙_, subst}
 use mathlib.Core.Bool.{Bool, true, false, not}
 use mathlib.Core.List.{List}
 use lib.Dec.{T, ltb, eqb}
 use lib.ListN.{length}
+use native.Mathlib.Omega.{arith}
+use borrow.Author.Tests.{le-ltb, lt-ltb}
 use Rattle.ground.specs.Table.{listed}
-use Rattle.ground.proofs.Choice.{on, on-lt}
-use Rattle.refusal.specs.Answer.{Answer, written, fitted}
+use Rattle.ground.specs.Choice.{both}
+use Rattle.ground.proofs.Choice.{on, on-lt, by-lt}
+use Rattle.refusal.specs.Answer.{Answer, refused, onward, written, fitted}
 use Rattle.refusal.specs.Number.{numberOf}
-use Rattle.refusal.proofs.Answers.{Refusing, on-refused, refusing-onward}
+use Rattle.refusal.specs.declared.Refusal.{Refusal}
+use Rattle.refusal.specs.declared.Written.{Written}
+use Rattle.refusal.specs.declared.Written.the-variants.{Length, Refused}
+use Rattle.refusal.proofs.Answers.{Refusing, on-refused, refusing-onward, not-refused, same-refused}
 use Rattle.packet.specs.Limits.{maxStore}
 use Rattle.packet.specs.declared.Packet.{Packet}
 use Rattle.judging.specs.Judge.{badPacket}
 use Rattle.measuring.specs.Measuring.{counted, over, emptyCarries, strictly, limited}
 use Rattle.measuring.specs.declared.Limit.{Limit}
 use Rattle.writing.specs.Writing.{bytesWritten, writing}
-use Rattle.guarantees.specs.WriterRefusals.{writerNumbers, WriterRefusals}
+use Rattle.guarantees.specs.WriterRefusals.{writerNumbers, WriterRefusals, Neither, SoundExactly}
+use Rattle.guarantees.specs.StrictWriting.{Sound}
 
 -- An answer that is refused, if it is, with one of the mode's numbers.
 abbrev Among : Bool → {A : Type 0} → Answer A → Type 0
@@ -51,3 +58,56 @@ module _ (strict : Bool) (limit : Limit) (room : ℕ) (s : List ℕ) (p : Packet
 pub writer-refusals : WriterRefusals
 writer-refusals strict limit p s old r new promise e is =
     on-refused (λ k. T (listed k (writerNumbers strict))) (writing strict limit (length old) s p) (numberOf e) (among strict limit (length old) s p) (sym (promise .answer) ∙ ap written is)
+
+-- What is asked after 10 and 11 is refused neither.
+module _ (strict : Bool) (limit : Limit) (room : ℕ) (s : List ℕ) (p : Packet) where
+  abbrev after : Answer ℕ
+  after = onward (strictly strict p) (λ _. limited limit (counted strict p) (fitted room (bytesWritten strict s p)))
+
+  abbrev Other : {A : Type 0} → Answer A → Type 0
+  Other a = Refusing Neither a
+
+  strict-other : Other (strictly strict p)
+  unfolding strictly
+  strict-other =
+      on Other (both strict (not (eqb (p .header .version) 1))) (λ v. (λ e. omega (arith, e), λ e. omega (arith, e)))
+      (λ v. on Other (both strict (ltb 8 (p .token .len))) (λ t. (λ e. omega (arith, e), λ e. omega (arith, e)))
+      (λ t. on Other (both strict (emptyCarries p)) (λ c. (λ e. omega (arith, e), λ e. omega (arith, e))) (λ c. tt)))
+
+  size-other : Other (limited limit (counted strict p) (fitted room (bytesWritten strict s p)))
+  unfolding limited
+  size-other =
+      on Other (over limit (counted strict p)) (λ o. (λ e. omega (arith, e), λ e. omega (arith, e)))
+      (λ o. on-lt Other room (length (bytesWritten strict s p)) (λ r. (λ e. omega (arith, e), λ e. omega (arith, e))) (λ r. tt))
+
+  other : Other after
+  other = refusing-onward Neither (strictly strict p) _ strict-other (λ _. size-other)
+
+  -- A writer's answer, and that it is neither.
+  module _ (r : Written) (answer : written r ≡ writing strict limit room s p) where
+    sound-then : Sound s p → (e : Refusal) → r ≡ Refused e → Neither (numberOf e)
+    unfolding writing
+    sound-then k e is =
+        let rest : written r ≡ after = answer ∙ rw (le-ltb maxStore (length s) (k .store), k .records) refl in
+        on-refused Neither after (numberOf e) other (sym rest ∙ ap written is)
+
+    module _ (f : (e : Refusal) → r ≡ Refused e → Neither (numberOf e)) where
+      not-so : (w : Written) → r ≡ w → (k : ℕ) → written w ≡ refused k → Neither k
+      not-so (Length n) is k e = not-refused e
+      not-so (Refused e) is k q = subst Neither (same-refused q) (f e is)
+
+      good : (t : Bool) → badPacket (length s) p ≡ t → length s ≤ maxStore → badPacket (length s) p ≡ false
+      unfolding writing
+      good true b h = absurd (not-so r refl 11 (answer ∙ rw (le-ltb maxStore (length s) h, b) refl) .1 refl)
+      good false b h = b
+
+      then-sound : Sound s p
+      unfolding writing
+      then-sound =
+          let short : length s ≤ maxStore =
+          by-lt maxStore (length s) (λ h. absurd (not-so r refl 10 (answer ∙ rw (lt-ltb maxStore (length s) h) refl) .0 refl)) (λ h. h) in
+          record { store = short; records = good (badPacket (length s) p) refl short }
+
+pub sound-exactly : SoundExactly
+sound-exactly strict limit p s old r new promise =
+    (sound-then strict limit (length old) s p r (promise .answer), then-sound strict limit (length old) s p r (promise .answer))

@@ -3,10 +3,14 @@ pub mod Refusals
 pub mod WriterRefusals
 pub mod DefaultLimit
 pub mod StrictReading
-pub mod Modes
 pub mod StrictWriting
 pub mod RoundTrips
+pub mod Modes
+pub mod Edits
 pub mod Register
 pub mod Padded
-pub mod Plans
+pub mod Blocks
+pub mod Texts
 pub mod Frames
+pub mod Plans
+pub mod Samples

@@ -1,5 +1,5 @@
 -- Strict writing: any packet that means a well-formed message and isn't refused 10 or 11, with enough limit and room, is written
--- as the message's RFC 7252 layout; nothing else is written. And what is written is read back, and the other way round.
+-- as the message's RFC 7252 layout; nothing else is written.
 use Prim.Native.Nat.{ℕ, _≤_}
 use mathlib.Core.Path.{_≡_}
 use mathlib.Core.Logic.{_↔_}

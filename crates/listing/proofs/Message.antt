@@ -1,15 +1,14 @@
--- The listing of a message's layout is the lines of that message.
-use Prim.Native.Nat.{_≤_}
-use mathlib.Core.Path.{_≡_, ap}
+-- The listing of a message's layout, from what strict reading answers to it.
+use mathlib.Core.Path.{ap}
 use native.Mathlib.Omega.{arith}
 use lib.ListN.{length}
 use borrow.Author.Tests.{le-ltb}
-use Rattle.rfc.specs.Message.{Message, WellFormed, layout}
+use Rattle.rfc.specs.Message.{layout}
 use Rattle.reading.proofs.Complete.{reads-layout}
 use Rattle.lines.specs.Lines.{messageLines}
-use Rattle.listing.specs.Listing.{newline, listing}
+use Rattle.listing.specs.Listing.{newline, listing, ListsLayouts}
 
-pub listing-layout : (m : Message) → WellFormed m → length (layout m) ≤ 65535 → listing (layout m) ≡ messageLines newline m
+pub listing-layout : ListsLayouts
 unfolding listing
 listing-layout m wf h =
     let r = reads-layout m wf (omega arith) in

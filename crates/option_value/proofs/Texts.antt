@@ -3,7 +3,7 @@ use Prim.Native.Nat.{ℕ}
 use mathlib.Core.Path.{_≡_, refl}
 use mathlib.Core.List.{List}
 use native.Mathlib.Omega.{arith}
-use Rattle.rfc.specs.Text.{text}
+use Rattle.utf8.specs.Walk.{text}
 use Rattle.ground.proofs.Choice.{on}
 use Rattle.refusal.specs.Answer.{Answer, given, fitted}
 use Rattle.option_value.specs.Text.{readText, textPart, writeText}

@@ -10,7 +10,7 @@ use mir.Val.{Fits}
 use mir.Syntax.{w8}
 use borrow.Author.Tests.{lt-ltb, le-ltb}
 use Rattle.ground.specs.Part.{Bytes}
-use Rattle.rfc.specs.Uint.{number, uint, withoutZeros}
+use Rattle.rfc.specs.Uint.{uint, withoutZeros}
 use Rattle.ground.proofs.Choice.{on-lt}
 use Rattle.ground.proofs.Part.{bytes-of}
 use Rattle.rfc.proofs.Uint.{read-written, length-uint, bytes-uint}

@@ -2,7 +2,7 @@
 use Prim.Native.Nat.{ℕ}
 use mathlib.Core.List.{List, []}
 use Rattle.ground.specs.Choice.{pick}
-use Rattle.rfc.specs.Text.{text}
+use Rattle.utf8.specs.Walk.{text}
 use Rattle.refusal.specs.Number.{numberOf}
 use Rattle.refusal.specs.Answer.{Answer, given, refused, fitted}
 use Rattle.option_value.specs.declared.Text.{Text}

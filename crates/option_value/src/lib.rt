@@ -198,6 +198,7 @@ pub fn option_to_text(value: &[u8]) -> Text
 // The value where it is text, else an empty part of it.
 pub fn text_part(value: &[u8]) -> &[u8]
     ensures { λ r. ⌜ now r ≡ textPart (now (value .entry)) ⌝ }
+    ensures { λ r. ⌜ r .ptr ≡ value .entry .ptr ⌝ }
 {
     if is_text(value) {
         return value;

@@ -34,6 +34,11 @@ bytesIn s start len = pick (leb (start + len) (length s)) (part s start len) []
 abbrev pub bytesOf : List ℕ → Range → List ℕ
 bytesOf s r = bytesIn s (r .start) (r .len)
 
+-- Where they lie, in a store of this size that lies at a place: at the range's start where its end is inside the store, and else
+-- at the store's own start. A place is a piece of memory and how far into it.
+abbrev pub placeOf : ℕ × ℕ → ℕ → Range → ℕ × ℕ
+placeOf at size r = (at .0, pick (leb (r .start + r .len) size) (r .start) 0 + at .1)
+
 -- The range of a record's value.
 abbrev pub rangeOf : OptionRecord → Range
 rangeOf r = record { start = r .start; len = r .len }

@@ -4,7 +4,7 @@ use limits::MAX_OPTIONS;
 ghost use mathlib.Core.Path.{_≡_};
 ghost use lib.ListN.{length, getD};
 ghost use lib.Dec.{ltb};
-ghost use Rattle.packet.specs.Packet.{newPacket, none, bytesOf, rangeOf, valueOf, recordsOf, ofNumber, numberAt};
+ghost use Rattle.packet.specs.Packet.{newPacket, none, bytesOf, placeOf, rangeOf, valueOf, recordsOf, ofNumber, numberAt};
 
 pub mod limits;
 
@@ -45,6 +45,7 @@ impl Range {
     // The bytes that the range names, as a part of the store; none where it is not inside the store.
     pub fn part<'a>(self, store: &'a [u8]) -> &'a [u8]
         ensures { λ r. ⌜ now r ≡ bytesOf (now (store .entry)) self ⌝ }
+        ensures { λ r. ⌜ r .ptr ≡ placeOf (store .entry .ptr) (length (now (store .entry))) self ⌝ }
     {
         let start = self.start as usize;
         let end = start + self.len as usize;
@@ -69,6 +70,7 @@ impl OptionRecord {
     // The option's value, as a part of the store.
     pub fn value<'a>(self, store: &'a [u8]) -> &'a [u8]
         ensures { λ r. ⌜ now r ≡ valueOf (now (store .entry)) self ⌝ }
+        ensures { λ r. ⌜ r .ptr ≡ placeOf (store .entry .ptr) (length (now (store .entry))) (rangeOf self) ⌝ }
     {
         let range = self.range();
         range.part(store)
@@ -101,6 +103,7 @@ impl Packet {
     // The token, as a part of the store.
     pub fn get_token<'a>(self, store: &'a [u8]) -> &'a [u8]
         ensures { λ r. ⌜ now r ≡ bytesOf (now (store .entry)) (self .token) ⌝ }
+        ensures { λ r. ⌜ r .ptr ≡ placeOf (store .entry .ptr) (length (now (store .entry))) (self .token) ⌝ }
     {
         let token = self.token;
         token.part(store)
@@ -109,6 +112,7 @@ impl Packet {
     // The payload, as a part of the store.
     pub fn get_payload<'a>(self, store: &'a [u8]) -> &'a [u8]
         ensures { λ r. ⌜ now r ≡ bytesOf (now (store .entry)) (self .payload) ⌝ }
+        ensures { λ r. ⌜ r .ptr ≡ placeOf (store .entry .ptr) (length (now (store .entry))) (self .payload) ⌝ }
     {
         let payload = self.payload;
         payload.part(store)
@@ -150,6 +154,7 @@ impl Packet {
     // The value of the option at an index, as a part of the store.
     pub fn option_value<'a>(self, store: &'a [u8], n: usize) -> &'a [u8]
         ensures { λ r. ⌜ now r ≡ valueOf (now (store .entry)) (getD (recordsOf self) n none) ⌝ }
+        ensures { λ r. ⌜ r .ptr ≡ placeOf (store .entry .ptr) (length (now (store .entry))) (rangeOf (getD (recordsOf self) n none)) ⌝ }
     {
         let record = self.record_at(n);
         record.value(store)
@@ -204,6 +209,7 @@ impl Packet {
     // The n-th value of a number, counted from 0, as a part of the store.
     pub fn get_option<'a>(self, store: &'a [u8], number: u16, n: usize) -> &'a [u8]
         ensures { λ r. ⌜ now r ≡ valueOf (now (store .entry)) (getD (ofNumber number (recordsOf self)) n none) ⌝ }
+        ensures { λ r. ⌜ r .ptr ≡ placeOf (store .entry .ptr) (length (now (store .entry))) (rangeOf (getD (ofNumber number (recordsOf self)) n none)) ⌝ }
     {
         let record = self.record_of(number, n);
         record.value(store)
@@ -212,6 +218,7 @@ impl Packet {
     // The first value of a number, as a part of the store.
     pub fn get_first_option<'a>(self, store: &'a [u8], number: u16) -> &'a [u8]
         ensures { λ r. ⌜ now r ≡ valueOf (now (store .entry)) (getD (ofNumber number (recordsOf self)) 0 none) ⌝ }
+        ensures { λ r. ⌜ r .ptr ≡ placeOf (store .entry .ptr) (length (now (store .entry))) (rangeOf (getD (ofNumber number (recordsOf self)) 0 none)) ⌝ }
     {
         self.get_option(store, number, 0)
     }

@@ -1,6 +1,7 @@
 // Plans the rest of images, and checks plans: reads one image to a line on standard input, and writes its plan, a picture and
 // the verdict to standard output.
 use libc::STDIN_FILENO;
+use libc::STDOUT_FILENO;
 use output::flushed;
 use placing::put_bytes;
 use words::NOWHERE;
@@ -30,6 +31,11 @@ fn answer_text(input: &mut [u8]) {
     if count < input.len() {
         input[count] = b'\n';
         answer_with_buffers(part(input, 0, count + 1));
+    } else {
+        io::write_all(
+            STDOUT_FILENO,
+            b"the input is too long: 299999 bytes at most\n",
+        );
     }
 }
 

@@ -11,7 +11,7 @@ use Rattle.rfc.specs.Block.{Block, Valid}
 use Rattle.ground.proofs.Choice.{by-lt, by-eq}
 use Rattle.image.specs.Image.{Missing, Held, NoneMissing}
 use Rattle.plan_checking.specs.Accepted.{Each, Rising, Flagged, Accepted}
-use Rattle.plan_checking.specs.Plan.{start, stop, covers, over}
+use Rattle.plan_checking.specs.Plan.{start, stop, over}
 use Rattle.plan_checking.specs.Steps.{Next}
 
 -- The conditions of a plan, of the units from `at` on.

@@ -15,7 +15,7 @@ use Rattle.plan_checking.specs.Steps.{Next}
 use Rattle.plan_checking.proofs.From.{From, starts-first, first, others, none-missing, from-start}
 use Rattle.planning.proofs.Largest.{Open, one-open, largest-open}
 use Rattle.planning.proofs.Planned.{onward, ended, at-held, at-missing}
-use Rattle.planning.proofs.Ours.{starts-at, there, head-is, tail-is}
+use Rattle.planning.proofs.Ours.{starts-at, head-is, tail-is}
 
 module _ (size : ℕ) (held : List ℕ) where
   -- Where no unit is missing there is no block.

@@ -1,25 +1,32 @@
--- UTF-8 (RFC 3629): its examples of section 7, and the edges of each row of the grammar of section 4.
+-- UTF-8 (RFC 3629): the characters of its examples in section 7, and the edges of each row of the grammar of section 4.
 use Prim.Native.Nat.{ℕ}
 use mathlib.Core.Path.{_≡_, refl}
 use mathlib.Core.Bool.{Bool, true, false}
 use mathlib.Core.List.{List, [], _∷_, map}
 use lib.ListN.{replicate, length}
-use Rattle.rfc.specs.Text.{text, textFrom, lead}
+use Rattle.rfc.specs.Text.{rows, character, Text}
 
 -- Section 7: "A≢Α.", "한국어", "日本語", and a character above FFFF after a byte order mark.
 section-7 : List (List ℕ)
 section-7 =
-    (0x41 ∷ 0xE2 ∷ 0x89 ∷ 0xA2 ∷ 0xCE ∷ 0x91 ∷ 0x2E ∷ [])
-    ∷ (0xED ∷ 0x95 ∷ 0x9C ∷ 0xEA ∷ 0xB5 ∷ 0xAD ∷ 0xEC ∷ 0x96 ∷ 0xB4 ∷ [])
-    ∷ (0xE6 ∷ 0x97 ∷ 0xA5 ∷ 0xE6 ∷ 0x9C ∷ 0xAC ∷ 0xE8 ∷ 0xAA ∷ 0x9E ∷ [])
-    ∷ (0xEF ∷ 0xBB ∷ 0xBF ∷ 0xF0 ∷ 0xA3 ∷ 0x8E ∷ 0xB4 ∷ [])
+    (0x41 ∷ [])
+    ∷ (0xE2 ∷ 0x89 ∷ 0xA2 ∷ [])
+    ∷ (0xCE ∷ 0x91 ∷ [])
+    ∷ (0x2E ∷ [])
+    ∷ (0xED ∷ 0x95 ∷ 0x9C ∷ [])
+    ∷ (0xEA ∷ 0xB5 ∷ 0xAD ∷ [])
+    ∷ (0xEC ∷ 0x96 ∷ 0xB4 ∷ [])
+    ∷ (0xE6 ∷ 0x97 ∷ 0xA5 ∷ [])
+    ∷ (0xE6 ∷ 0x9C ∷ 0xAC ∷ [])
+    ∷ (0xE8 ∷ 0xAA ∷ 0x9E ∷ [])
+    ∷ (0xEF ∷ 0xBB ∷ 0xBF ∷ [])
+    ∷ (0xF0 ∷ 0xA3 ∷ 0x8E ∷ 0xB4 ∷ [])
     ∷ []
 
--- No characters; then the first and the last character of each row.
+-- The first and the last character of each row.
 accepted : List (List ℕ)
 accepted =
-    []
-    ∷ (0x00 ∷ [])
+    (0x00 ∷ [])
     ∷ (0x7F ∷ [])
     ∷ (0xC2 ∷ 0x80 ∷ [])
     ∷ (0xDF ∷ 0xBF ∷ [])
@@ -83,24 +90,22 @@ no-tail =
     ∷ (0xF1 ∷ 0x80 ∷ 0x80 ∷ 0xC0 ∷ [])
     ∷ []
 
--- Characters that are cut off by the end or by another, and the overlong "/../" of section 10.
-cut-off : List (List ℕ)
-cut-off =
-    (0xC2 ∷ [])
-    ∷ (0xE2 ∷ 0x89 ∷ [])
-    ∷ (0xF1 ∷ 0x80 ∷ 0x80 ∷ [])
-    ∷ (0xE2 ∷ 0x89 ∷ 0x41 ∷ [])
-    ∷ (0x41 ∷ 0xC2 ∷ 0x80 ∷ 0x80 ∷ [])
-    ∷ (0x2F ∷ 0xC0 ∷ 0xAE ∷ 0x2E ∷ 0x2F ∷ [])
-    ∷ []
+-- No byte, a character that is cut off, and two characters.
+no-one : List (List ℕ)
+no-one = [] ∷ (0xC2 ∷ []) ∷ (0xE2 ∷ 0x89 ∷ []) ∷ (0xF1 ∷ 0x80 ∷ 0x80 ∷ []) ∷ (0x41 ∷ 0x41 ∷ []) ∷ (0xC2 ∷ 0x80 ∷ 0x80 ∷ []) ∷ []
 
 all : Bool → List (List ℕ) → Type 0
-all answer bytes = map text bytes ≡ replicate (length bytes) answer
+all answer bytes = map character bytes ≡ replicate (length bytes) answer
 
-texts : (all true section-7) × (all true accepted)
-unfolding all section-7 accepted textFrom lead
-texts = (refl, refl)
+are : (all true section-7) × (all true accepted)
+unfolding all section-7 accepted rows
+are = (refl, refl)
 
-no-texts : (all false no-lead) × (all false no-second) × (all false no-tail) × (all false cut-off)
-unfolding all no-lead no-second no-tail cut-off textFrom lead
-no-texts = (refl, refl, refl, refl)
+are-not : (all false no-lead) × (all false no-second) × (all false no-tail) × (all false no-one)
+unfolding all no-lead no-second no-tail no-one rows
+are-not = (refl, refl, refl, refl)
+
+-- "A≢Α." is its characters one after the other, and no characters are a text.
+text : (Text (0x41 ∷ 0xE2 ∷ 0x89 ∷ 0xA2 ∷ 0xCE ∷ 0x91 ∷ 0x2E ∷ [])) × (Text [])
+unfolding rows
+text = (((0x41 ∷ []) ∷ (0xE2 ∷ 0x89 ∷ 0xA2 ∷ []) ∷ (0xCE ∷ 0x91 ∷ []) ∷ (0x2E ∷ []) ∷ [], tt, refl), ([], tt, refl))

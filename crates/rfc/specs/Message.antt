@@ -27,7 +27,8 @@ abbrev pub Rising : ℕ → List Opt → Type 0
 Rising n [] = Unit {0}
 Rising n (o ∷ os) = (n ≤ o .number) × Rising (o .number) os
 
--- What each option keeps to: a number of 16 bits, and a value that a length of 16 extension bits reaches (section 3.1).
+-- What each option keeps to: a number of the registry, which has 0 to 65535 (section 12.2), and a value that a length of 16 extension
+-- bits reaches (section 3.1).
 abbrev pub Options : List Opt → Type 0
 Options [] = Unit {0}
 Options (o ∷ os) = (o .number ≤ 65535) × (length (o .value) ≤ 65804) × Bytes (o .value) × Options os

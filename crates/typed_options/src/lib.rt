@@ -14,7 +14,6 @@ use refusal::Refusal;
 use splicing::Edited;
 use splicing::refused;
 use tables::option_number;
-ghost use mathlib.Core.Path.{_≡_};
 ghost use Rattle.rfc.specs.Uint.{uint};
 ghost use Rattle.refusal.specs.Answer.{answered};
 ghost use Rattle.splicing.specs.Edited.{edited};

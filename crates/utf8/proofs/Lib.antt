@@ -1,1 +1,3 @@
+mod Examples
+pub mod Grammar
 pub mod Utf8

@@ -1,6 +1,6 @@
 // UTF-8 text: the bytes are judged one by one, by the row of the grammar that a first byte has (RFC 3629, section 4).
 ghost use mathlib.Core.Path.{_≡_};
-ghost use Rattle.rfc.specs.Text.{text, lead};
+ghost use Rattle.utf8.specs.Walk.{text, lead};
 ghost use Rattle.utf8.specs.Row.{rowOf};
 
 // What the first byte of a character calls for: a count of further bytes, and the lowest and the highest that the next

@@ -1,3 +1,4 @@
+-- `put_datagram` meets its contract: 10 for what would be too long, then the judgement in the frame, then the room.
 use borrow.Author.Needs.{needs}
 use native.Mathlib.Omega.{arith}
 use denote.Ref.{now}

@@ -37,8 +37,8 @@ returns c =
     let options = payload .before .before .before .before .before .before in
     let token = options .before .before .before .before in
     let head = token .before .before .before .before .before .before in
-    puts-puts (puts-puts (puts-puts (head .put-header .ensures) (rw (token .before .get-token .ensures) at (token .put-bytes-line .ensures)))
-    (options .put-options .ensures)) (rw (payload .before .get-payload .ensures) at (payload .put-bytes-line2 .ensures))
+    puts-puts (puts-puts (puts-puts (head .put-header .ensures) (rw (token .before .get-token .ensures .0) at (token .put-bytes-line .ensures)))
+    (options .put-options .ensures)) (rw (payload .before .get-payload .ensures .0) at (payload .put-bytes-line2 .ensures))
 
 pub put-message-spec : {M : Type 1} → statement M
 put-message-spec =

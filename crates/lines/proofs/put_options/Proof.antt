@@ -61,7 +61,7 @@ loop-again c =
       (
         s .loop .inv .1 .0,
         putting-turn (s .loop .inv .1 .1) (ap (lines (a .end) (a .store .now)) rest)
-            (rw (c .before .before .before .value .ensures) at (c .before .before .put-option .ensures)),
+            (rw (c .before .before .before .value .ensures .0) at (c .before .before .put-option .ensures)),
       ),
     )
 

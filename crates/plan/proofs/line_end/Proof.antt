@@ -1,9 +1,7 @@
 -- `line_end` is safe and ends: each turn passes a byte.
 use Prim.Native.Nat.{_-_, _≤_}
-use mathlib.Core.Path.{_≡_}
 use native.Mathlib.Omega.{arith}
 use lib.ListN.{length}
-use borrow.Author.Needs.{needs}
 use Rattle.plan.proofs.line_end.Statement.{statement}
 use Rattle.plan.proofs.line_end.Tie as tie
 

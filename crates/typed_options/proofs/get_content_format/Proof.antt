@@ -15,7 +15,7 @@ answer : (c : tie.After-try-from) → formatOf (readU16 (c .try-from .result)) �
 unfolding formatIn
 answer c =
     let a = c .before .before .before .before .before .args in
-    ap formatOf (c .try-from .ensures ∙ ap (readUint 2) (c .before .get-first-option .ensures))
+    ap formatOf (c .try-from .ensures ∙ ap (readUint 2) (c .before .get-first-option .ensures .0))
     ∙ on-present (None 0) (λ r. formatOf (readUint 2 (valueOf (now (a .store)) r))) _ (ofNumber 12 (recordsOf (a .packet)))
     (c .before .before .before .has-option .ensures) (c .before .before .if1 .left)
 

@@ -20,7 +20,7 @@ answer : (c : tie.After-try-from) → found (readU32 (c .try-from .result)) ≡ 
 unfolding observeIn
 answer c =
     let a = c .before .before .before .before .before .args in
-    ap found (c .try-from .ensures ∙ ap (readUint 4) (c .before .get-first-option .ensures))
+    ap found (c .try-from .ensures ∙ ap (readUint 4) (c .before .get-first-option .ensures .0))
     ∙ on-present (given absent) (λ r. found (readUint 4 (valueOf (now (a .store)) r))) _ (ofNumber 6 (recordsOf (a .packet)))
     (c .before .before .before .has-option .ensures) (c .before .before .if1 .left)
 

@@ -1,53 +1,55 @@
 -- `lead_of` meets its contract: each arm's bytes have the row that it gives, single bytes by computing it, ranges by `row`.
 use mathlib.Core.Path.{refl}
 use native.Mathlib.Omega.{arith}
-use Rattle.rfc.specs.Text.{due, never, lead}
+use Rattle.utf8.specs.Walk.{due, never, lead}
+use Rattle.utf8.specs.Row.{dues}
+use Rattle.rfc.specs.Text.{rows}
 use Rattle.utf8.proofs.Utf8.{same, row}
 use Rattle.utf8.proofs.lead_of.Statement.{statement}
 use Rattle.utf8.proofs.lead_of.Tie as tie
 
 returns : tie.Need-returns
-unfolding lead
+unfolding rows
 returns c = rw (c .match .keys1) refl
 
 returns-2 : tie.Need-returns-2
-unfolding lead
+unfolding rows
 returns-2 c = rw (c .match .keys2) refl
 
 returns-3 : tie.Need-returns-3
-unfolding lead
+unfolding rows
 returns-3 c = rw (c .match .keys3) refl
 
 returns-4 : tie.Need-returns-4
-unfolding lead
+unfolding rows
 returns-4 c = rw (c .match .keys4) refl
 
 returns-5 : tie.Need-returns-5
-unfolding lead same
-returns-5 c = row 0x00 0x7F (due 0 0x80 0xBF) tt (c .before .before .args .b) (omega arith) (omega arith)
+unfolding rows same
+returns-5 c = row 0x00 0x7F (due (dues 0 0x80 0xBF)) tt (c .before .before .args .b) (omega arith) (omega arith)
 
 returns-6 : tie.Need-returns-6
-unfolding lead same
-returns-6 c = row 0xC2 0xDF (due 1 0x80 0xBF) tt (c .before .before .before .before .args .b) (omega arith) (omega arith)
+unfolding rows same
+returns-6 c = row 0xC2 0xDF (due (dues 1 0x80 0xBF)) tt (c .before .before .before .before .args .b) (omega arith) (omega arith)
 
 returns-7 : tie.Need-returns-7
-unfolding lead same
-returns-7 c = row 0xE1 0xEC (due 2 0x80 0xBF) tt (c .before .before .before .before .before .args .b) (omega arith) (omega arith)
+unfolding rows same
+returns-7 c = row 0xE1 0xEC (due (dues 2 0x80 0xBF)) tt (c .before .before .before .before .before .args .b) (omega arith) (omega arith)
 
 returns-8 : tie.Need-returns-8
-unfolding lead same
-returns-8 c = row 0xEE 0xEF (due 2 0x80 0xBF) tt (c .before .before .before .before .before .before .args .b) (omega arith) (omega arith)
+unfolding rows same
+returns-8 c = row 0xEE 0xEF (due (dues 2 0x80 0xBF)) tt (c .before .before .before .before .before .before .args .b) (omega arith) (omega arith)
 
 returns-9 : tie.Need-returns-9
-unfolding lead same
-returns-9 c = row 0xF1 0xF3 (due 3 0x80 0xBF) tt (c .before .before .before .before .before .before .before .args .b) (omega arith) (omega arith)
+unfolding rows same
+returns-9 c = row 0xF1 0xF3 (due (dues 3 0x80 0xBF)) tt (c .before .before .before .before .before .before .before .args .b) (omega arith) (omega arith)
 
 returns-10 : tie.Need-returns-10
-unfolding lead same
+unfolding rows same
 returns-10 c = row 0x80 0xC1 never tt (c .before .before .before .args .b) (omega arith) (omega arith)
 
 returns-11 : tie.Need-returns-11
-unfolding lead same
+unfolding rows same
 returns-11 c = row 0xF5 0xFF never tt (c .before .before .before .before .before .before .before .args .b) (omega arith) (omega arith)
 
 pub lead-of-spec : {M : Type 1} → statement M

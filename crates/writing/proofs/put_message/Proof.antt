@@ -27,7 +27,7 @@ abbrev μ-loop : tie.MeasureT-loop
 
 -- Header and token were laid, and so their length was answered.
 head-at : (c : tie.After-put-header Inv-loop μ-loop) → LaysHeader (c .before .before .before .before .before .before .before .before .before .args .packet .header) (meaning (c .before .before .before .before .before .before .before .before .before .args .store .now) (sent (c .before .before .before .before .before .before .before .before .before .args .strict) (c .before .before .before .before .before .before .before .before .before .args .packet)) .token) (c .before .before .before .before .before .before .before .before .before .args .out .now) (c .put-header .result) (c .put-header .last .0)
-head-at c = rw (c .before .before .part .ensures) at (c .put-header .ensures)
+head-at c = rw (c .before .before .part .ensures .0) at (c .put-header .ensures)
 
 -- The records that are left begin with the record at the index.
 next : (c : tie.After-record Inv-loop μ-loop) → drop (c .before .before .loop .i) (recordsOf (c .before .before .before .before .before .before .before .before .before .before .before .before .before .before .before .args .packet)) ≡ getD (c .before .before .before .before .before .before .before .before .before .before .before .before .before .before .before .args .packet .options) (c .before .before .loop .i) none ∷ drop (c .before .before .loop .i + 1) (recordsOf (c .before .before .before .before .before .before .before .before .before .before .before .before .before .before .before .args .packet))
@@ -37,7 +37,7 @@ next c =
 
 -- One option more was put.
 turn-at : (c : tie.After-taken2 Inv-loop μ-loop) → Putting (c .before .before .before .before .before .before .before .before .before .before .before .before .before .before .before .before .before .before .before .before .before .args .store .now) (recordsOf (c .before .before .before .before .before .before .before .before .before .before .before .before .before .before .before .before .before .before .before .before .before .args .packet)) (c .before .before .before .before .before .before .before .before .before .before .before .before .put-header .last .0) (c .before .before .before .before .before .before .before .before .before .taken .result) (c .before .before .before .put-option .last .0) (getD (c .before .before .before .before .before .before .before .before .before .before .before .before .before .before .before .before .before .before .before .before .before .args .packet .options) (c .before .before .before .before .before .before .before .before .loop .i) none .number) (c .before .before .before .before .before .before .before .before .loop .next + c .taken2 .result) (c .before .before .before .before .before .before .before .before .loop .i + 1)
-turn-at c = turn _ _ _ _ _ _ _ _ (c .before .before .before .before .before .before .before .before .loop .inv .1) _ (next (c .before .before .before .before .before .before)) _ _ _ (rw (c .before .before .before .before .before .value .ensures) at (c .before .before .before .put-option .ensures)) (c .taken2 .ensures)
+turn-at c = turn _ _ _ _ _ _ _ _ (c .before .before .before .before .before .before .before .before .loop .inv .1) _ (next (c .before .before .before .before .before .before)) _ _ _ (rw (c .before .before .before .before .before .value .ensures .0) at (c .before .before .before .put-option .ensures)) (c .taken2 .ensures)
 
 -- All options were put.
 options-at : (c : tie.After-loop Inv-loop μ-loop) → Put (c .before .before .before .before .before .put-header .last .0) (c .before .before .taken .result) (leftover (c .before .before .before .before .before .before .before .before .before .before .before .before .before .before .args .store .now) (recordsOf (c .before .before .before .before .before .before .before .before .before .before .before .before .before .before .args .packet)) 0 0) (c .before .loop .next) (c .before .loop .out)
@@ -47,7 +47,7 @@ options-at c =
 
 -- The part that is put last is the payload of the message.
 payload-at : (c : tie.After-put-payload Inv-loop μ-loop) → LaysPayload (meaning (c .before .before .before .before .before .before .before .before .before .before .before .before .before .before .before .before .before .args .store .now) (sent (c .before .before .before .before .before .before .before .before .before .before .before .before .before .before .before .before .before .args .strict) (c .before .before .before .before .before .before .before .before .before .before .before .before .before .before .before .before .before .args .packet)) .payload) (c .before .before .before .before .loop .next) (c .before .before .before .before .loop .out) (c .put-payload .result) (c .put-payload .last .0)
-payload-at c = rw (c .before .before .part2 .ensures, c .before .before .before .before .before .before .before .before .before .before .before .before .sent-payload .ensures) at (c .put-payload .ensures)
+payload-at c = rw (c .before .before .part2 .ensures .0, c .before .before .before .before .before .before .before .before .before .before .before .before .sent-payload .ensures) at (c .put-payload .ensures)
 
 sent-payload-requires : tie.Need-sent-payload-requires Inv-loop μ-loop
 sent-payload-requires c κs = tt
@@ -77,7 +77,7 @@ put-option-requires : tie.Need-put-option-requires Inv-loop μ-loop
 put-option-requires c κs = tt
 
 taken-requires-2 : tie.Need-taken-requires-2 Inv-loop μ-loop
-taken-requires-2 c κs = (_, (rw (c .before .before .before .before .value .ensures) at (c .before .before .put-option .ensures)) .answer ∙ option-given _ _ _ _ _ _ _ _ (c .before .before .before .before .before .before .before .loop .inv .1) _ (next (c .before .before .before .before .before)))
+taken-requires-2 c κs = (_, (rw (c .before .before .before .before .value .ensures .0) at (c .before .before .put-option .ensures)) .answer ∙ option-given _ _ _ _ _ _ _ _ (c .before .before .before .before .before .before .before .loop .inv .1) _ (next (c .before .before .before .before .before)))
 
 add-next : tie.Need-add-next Inv-loop μ-loop
 add-next c = omega (arith, turn-at c .fits)

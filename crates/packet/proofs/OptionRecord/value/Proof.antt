@@ -1,7 +1,7 @@
 -- `OptionRecord::value` is the part that the record's range names.
 use mathlib.Core.Path.{ap, _∙_}
 use borrow.Author.Needs.{needs}
-use Rattle.packet.specs.Packet.{bytesOf}
+use Rattle.packet.specs.Packet.{bytesOf, placeOf}
 use Rattle.packet.proofs.OptionRecord.value.Statement.{statement}
 use Rattle.packet.proofs.OptionRecord.value.Tie as tie
 
@@ -12,7 +12,9 @@ part-requires : tie.Need-part-requires
 part-requires c κs = search needs
 
 returns : tie.Need-returns
-returns c = c .part .ensures ∙ ap (bytesOf _) (c .before .range .ensures)
+returns c =
+    let whose = c .before .range .ensures in
+    (c .part .ensures .0 ∙ ap (bytesOf _) whose, c .part .ensures .1 ∙ ap (placeOf _ _) whose)
 
 pub value-spec : {M : Type 1} → statement M
 value-spec = tie.close (tie.spec range-requires part-requires returns)

@@ -1,5 +1,6 @@
 -- `Range::part`: each return by the test of the range's end.
 use Rattle.packet.specs.Packet.{bytesIn}
+use mathlib.Core.Path.{refl}
 use native.Mathlib.Nat.{add-sub-cancel-left}
 use borrow.Author.Tests.{le-leb, lt-leb}
 use borrow.Author.Needs.{needs}
@@ -26,7 +27,7 @@ part-result-end c = search needs
 
 returns : tie.Need-returns
 unfolding bytesIn
-returns c = rw (lt-leb _ _ (c .before .if1 .taken))
+returns c = (rw (lt-leb _ _ (c .before .if1 .taken)) refl, rw (lt-leb _ _ (c .before .if1 .taken)) refl)
 
 sub-result-2 : tie.Need-sub-result-2
 sub-result-2 c = search needs
@@ -39,7 +40,7 @@ part-result-end-2 c = search needs
 
 returns-2 : tie.Need-returns-2
 unfolding bytesIn
-returns-2 c = rw (le-leb _ _ (c .before .if1 .left), add-sub-cancel-left)
+returns-2 c = (rw (le-leb _ _ (c .before .if1 .left), add-sub-cancel-left) refl, rw (le-leb _ _ (c .before .if1 .left)) refl)
 
 pub part-spec : {M : Type 1} → statement M
 part-spec =

@@ -1,5 +1,5 @@
 -- `ranges_at` is safe and ends: each turn takes a range, of which a line has fewer than bytes.
-use Prim.Native.Nat.{_-_, _≤_}
+use Prim.Native.Nat.{_-_}
 use mathlib.Core.Path.{_≡_}
 use native.Mathlib.Omega.{arith}
 use lib.ListN.{length}

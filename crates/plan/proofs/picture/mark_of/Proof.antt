@@ -1,9 +1,6 @@
 -- `mark_of` is safe and ends: each turn takes one from what is left.
 use Prim.Native.Nat.{_-_, _≤_}
-use mathlib.Core.Path.{_≡_}
 use native.Mathlib.Omega.{arith}
-use lib.ListN.{length}
-use borrow.Author.Needs.{needs}
 use Rattle.plan.proofs.picture.mark_of.Statement.{statement}
 use Rattle.plan.proofs.picture.mark_of.Tie as tie
 

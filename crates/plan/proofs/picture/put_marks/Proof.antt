@@ -1,5 +1,5 @@
 -- `put_marks` is safe and ends: each turn passes a step of units.
-use Prim.Native.Nat.{_-_, _≤_}
+use Prim.Native.Nat.{_-_}
 use mathlib.Core.Path.{_≡_}
 use native.Mathlib.Omega.{arith}
 use lib.ListN.{length}

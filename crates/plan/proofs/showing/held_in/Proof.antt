@@ -1,9 +1,7 @@
 -- `held_in` is safe and ends: there are no more held units than units passed.
 use Prim.Native.Nat.{_-_, _≤_}
-use mathlib.Core.Path.{_≡_}
 use native.Mathlib.Omega.{arith}
 use lib.ListN.{length}
-use borrow.Author.Needs.{needs}
 use Rattle.plan.proofs.showing.held_in.Statement.{statement}
 use Rattle.plan.proofs.showing.held_in.Tie as tie
 

@@ -1,9 +1,7 @@
 -- `are_before` is safe and ends: each turn takes a number.
 use Prim.Native.Nat.{_-_, _≤_}
-use mathlib.Core.Path.{_≡_}
 use native.Mathlib.Omega.{arith}
 use lib.ListN.{length}
-use borrow.Author.Needs.{needs}
 use Rattle.plan_requests.proofs.made.are_before.Statement.{statement}
 use Rattle.plan_requests.proofs.made.are_before.Tie as tie
 

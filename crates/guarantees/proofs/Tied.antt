@@ -1,0 +1,177 @@
+-- The promises that the theorems speak of are the contracts of the functions themselves, as the checker reads them from the code:
+-- a contract that is changed is tied no longer, and this file isn't proved.
+use mathlib.Core.Path.{_≡_}
+use mathlib.Core.Bool.{true, false}
+use lib.ListN.{length}
+use denote.Ref.{now}
+use Rattle.rfc.specs.Uint.{uint}
+use Rattle.header.specs.Header.{settingOf, withCode}
+use Rattle.option_value.specs.Text.{readText, textOf}
+use Rattle.code_text.specs.CodeText.{codeIn, codeOf}
+use Rattle.measuring.specs.declared.Limit.the-variants.{Default, Given, Unlimited}
+use Rattle.rfc.specs.Block.{blockBytes}
+use Rattle.refusal.specs.Answer.{written, after, beside}
+use Rattle.option_value.specs.Uint.{ReadsUint, uintOf, readU8, readU16, readU32, readU64}
+use Rattle.block_value.specs.Answers.{meant, built}
+use Rattle.block_value.specs.Plain.{ReadsPlain}
+use Rattle.block_value.specs.Strict.{strictNew, strictWriting, ReadsStrict}
+use Rattle.reading.specs.Reading.{FromBytes}
+use Rattle.writing.specs.Writing.{ToBytes}
+use Rattle.splicing.specs.Edited.{Edits}
+use Rattle.splicing.specs.Splice.{rangesIn}
+use Rattle.editing.specs.Edit.{tokenSet, payloadSet, added, optionSet, cleared, clearedAll}
+use Rattle.typed_options.specs.Setters.{Sets, formatSet, observeSet}
+use Rattle.typed_options.specs.Getters.{GetsFormat, GetsObserve}
+use Rattle.register.specs.Check.{Checks}
+use Rattle.framing.specs.Framing.{ToFrame, FromFrame}
+use Rattle.plan_checking.specs.Plan.{Checks as ChecksPlan}
+use Rattle.planning.specs.Planner.{Plans}
+use Rattle.reading.proofs.from_bytes.Reads as FromPlain
+use Rattle.reading.proofs.from_bytes_strict.Reads as FromStrict
+use Rattle.writing.proofs.to_bytes.Reads as ToPlain
+use Rattle.writing.proofs.to_bytes_with_limit.Reads as ToPlainLimit
+use Rattle.writing.proofs.to_bytes_unlimited.Reads as ToPlainUnlimited
+use Rattle.writing.proofs.to_bytes_strict.Reads as ToStrict
+use Rattle.writing.proofs.to_bytes_with_limit_strict.Reads as ToStrictLimit
+use Rattle.writing.proofs.to_bytes_unlimited_strict.Reads as ToStrictUnlimited
+use Rattle.editing.proofs.set_token.Reads as SetToken
+use Rattle.editing.proofs.set_payload.Reads as SetPayload
+use Rattle.editing.proofs.add_option.Reads as AddOption
+use Rattle.editing.proofs.set_option.Reads as SetOption
+use Rattle.editing.proofs.clear_option.Reads as ClearOption
+use Rattle.editing.proofs.clear_all_options.Reads as ClearAll
+use Rattle.typed_options.proofs.set_content_format.Reads as SetFormat
+use Rattle.typed_options.proofs.set_observe_value.Reads as SetObserve
+use Rattle.typed_options.proofs.get_content_format.Reads as GetFormat
+use Rattle.typed_options.proofs.get_observe_value.Reads as GetObserve
+use Rattle.option_value.proofs.option_to_uint.Reads as ToUint
+use Rattle.block_value.proofs.BlockValue.try_from.Reads as BlockFrom
+use Rattle.block_value.proofs.BlockValue.try_from_strict.Reads as BlockFromStrict
+use Rattle.block_value.proofs.BlockValue.into_bytes_strict.Reads as BlockIntoStrict
+use Rattle.block_value.proofs.BlockValue.new_strict.Reads as BlockNewStrict
+use Rattle.register.proofs.check.Reads as CheckRegister
+use Rattle.framing.proofs.to_frame.Reads as FrameOut
+use Rattle.framing.proofs.from_frame.Reads as FrameBack
+use Rattle.plan_checking.proofs.check.Reads as CheckPlan
+use Rattle.planning.proofs.plan.Reads as MakePlan
+use Rattle.header.proofs.Header.set_code.Reads as SetCode
+use Rattle.option_value.proofs.OptionValueU8.try_from.Reads as FromU8
+use Rattle.option_value.proofs.OptionValueU16.try_from.Reads as FromU16
+use Rattle.option_value.proofs.OptionValueU32.try_from.Reads as FromU32
+use Rattle.option_value.proofs.OptionValueU64.try_from.Reads as FromU64
+use Rattle.option_value.proofs.option_to_text.Reads as ToText
+use Rattle.code_text.proofs.code_in.Reads as CodeIn
+
+-- Reading.
+from-bytes : (k : _) (a : _) (r : _) (x : _) → FromPlain.Post k a r x → FromBytes false (now (a .0)) r
+from-bytes k a r x h = h
+
+from-bytes-strict : (k : _) (a : _) (r : _) (x : _) → FromStrict.Post k a r x → FromBytes true (now (a .0)) r
+from-bytes-strict k a r x h = h
+
+-- Writing, at each limit, plain and strict.
+to-bytes : (k : _) (a : _) (r : _) (x : _) → ToPlain.Post k a r x → ToBytes false Default (a .0) (now (a .1 .0)) (now (a .1 .1 .0)) r (now (x .1 .1 .0))
+to-bytes k a r x h = h
+
+to-bytes-with-limit : (k : _) (a : _) (r : _) (x : _) → ToPlainLimit.Post k a r x → ToBytes false (Given (a .1 .0)) (a .0) (now (a .1 .1 .0)) (now (a .1 .1 .1 .0)) r (now (x .1 .1 .1 .0))
+to-bytes-with-limit k a r x h = h
+
+to-bytes-unlimited : (k : _) (a : _) (r : _) (x : _) → ToPlainUnlimited.Post k a r x → ToBytes false Unlimited (a .0) (now (a .1 .0)) (now (a .1 .1 .0)) r (now (x .1 .1 .0))
+to-bytes-unlimited k a r x h = h
+
+to-bytes-strict : (k : _) (a : _) (r : _) (x : _) → ToStrict.Post k a r x → ToBytes true Default (a .0) (now (a .1 .0)) (now (a .1 .1 .0)) r (now (x .1 .1 .0))
+to-bytes-strict k a r x h = h
+
+to-bytes-with-limit-strict : (k : _) (a : _) (r : _) (x : _) → ToStrictLimit.Post k a r x → ToBytes true (Given (a .1 .0)) (a .0) (now (a .1 .1 .0)) (now (a .1 .1 .1 .0)) r (now (x .1 .1 .1 .0))
+to-bytes-with-limit-strict k a r x h = h
+
+to-bytes-unlimited-strict : (k : _) (a : _) (r : _) (x : _) → ToStrictUnlimited.Post k a r x → ToBytes true Unlimited (a .0) (now (a .1 .0)) (now (a .1 .1 .0)) r (now (x .1 .1 .0))
+to-bytes-unlimited-strict k a r x h = h
+
+-- Edits.
+set-token : (k : _) (a : _) (r : _) (x : _) → SetToken.Post k a r x → Edits (a .0) (tokenSet (a .0) (record { start = a .1 .0; len = a .1 .1 .0 })) r
+set-token k a r x h = h
+
+set-payload : (k : _) (a : _) (r : _) (x : _) → SetPayload.Post k a r x → Edits (a .0) (payloadSet (a .0) (record { start = a .1 .0; len = a .1 .1 .0 })) r
+set-payload k a r x h = h
+
+add-option : (k : _) (a : _) (r : _) (x : _) → AddOption.Post k a r x → Edits (a .0) (added (a .0) (a .1 .0) (record { start = a .1 .1 .0; len = a .1 .1 .1 .0 })) r
+add-option k a r x h = h
+
+set-option : (k : _) (a : _) (r : _) (x : _) → SetOption.Post k a r x → Edits (a .0) (optionSet (a .0) (a .1 .0) (rangesIn (now (a .1 .1 .0)))) r
+set-option k a r x h = h
+
+clear-option : (k : _) (a : _) (r : _) (x : _) → ClearOption.Post k a r x → Edits (a .0) (cleared (a .0) (a .1 .0)) r
+clear-option k a r x h = h
+
+clear-all-options : (k : _) (a : _) (r : _) (x : _) → ClearAll.Post k a r x → Edits (a .0) (clearedAll (a .0)) r
+clear-all-options k a r x h = h
+
+-- The two setters.
+set-content-format : (k : _) (a : _) (r : _) (x : _) → SetFormat.Post k a r x → Sets (a .0) (formatSet (now (a .1 .0)) (a .1 .1 .0) (a .0) (a .1 .1 .1 .0)) (a .1 .1 .0) (uint 2 (a .1 .1 .1 .0)) (now (a .1 .0)) r (now (x .1 .0))
+set-content-format k a r x h = h
+
+set-observe-value : (k : _) (a : _) (r : _) (x : _) → SetObserve.Post k a r x → Sets (a .0) (observeSet (now (a .1 .0)) (a .1 .1 .0) (a .0) (a .1 .1 .1 .0)) (a .1 .1 .0) (uint 4 (a .1 .1 .1 .0)) (now (a .1 .0)) r (now (x .1 .0))
+set-observe-value k a r x h = h
+
+-- Text and codes.
+option-to-text : (k : _) (a : _) (r : _) (x : _) → ToText.Post k a r x → textOf r ≡ readText (now (a .0))
+option-to-text k a r x h = h
+
+set-code : (k : _) (a : _) (r : _) (x : _) → SetCode.Post k a r x → settingOf r ≡ beside (a .0) (withCode (a .0) (now (a .1 .0)))
+set-code k a r x h = h
+
+code-in : (k : _) (a : _) (r : _) (x : _) → CodeIn.Post k a r x → codeOf r ≡ codeIn (now (a .0))
+code-in k a r x h = h
+
+-- Uints, blocks, and the getters that hand a count on.
+option-to-uint : (k : _) (a : _) (r : _) (x : _) → ToUint.Post k a r x → ReadsUint (a .1 .0) (now (a .0)) (uintOf r)
+option-to-uint k a r x h = h
+
+u8-from : (k : _) (a : _) (r : _) (x : _) → FromU8.Post k a r x → ReadsUint 1 (now (a .0)) (readU8 r)
+u8-from k a r x h = h
+
+u16-from : (k : _) (a : _) (r : _) (x : _) → FromU16.Post k a r x → ReadsUint 2 (now (a .0)) (readU16 r)
+u16-from k a r x h = h
+
+u32-from : (k : _) (a : _) (r : _) (x : _) → FromU32.Post k a r x → ReadsUint 4 (now (a .0)) (readU32 r)
+u32-from k a r x h = h
+
+u64-from : (k : _) (a : _) (r : _) (x : _) → FromU64.Post k a r x → ReadsUint 8 (now (a .0)) (readU64 r)
+u64-from k a r x h = h
+
+get-content-format : (k : _) (a : _) (r : _) (x : _) → GetFormat.Post k a r x → GetsFormat (now (a .1 .0)) (a .0) r
+get-content-format k a r x h = h
+
+get-observe-value : (k : _) (a : _) (r : _) (x : _) → GetObserve.Post k a r x → GetsObserve (now (a .1 .0)) (a .0) r
+get-observe-value k a r x h = h
+
+block-from : (k : _) (a : _) (r : _) (x : _) → BlockFrom.Post k a r x → ReadsPlain (now (a .0)) r
+block-from k a r x h = h
+
+block-from-strict : (k : _) (a : _) (r : _) (x : _) → BlockFromStrict.Post k a r x → ReadsStrict (now (a .0)) r
+block-from-strict k a r x h = h
+
+block-into-strict : (k : _) (a : _) (r : _) (x : _) → BlockIntoStrict.Post k a r x
+    → (written r ≡ strictWriting (length (now (a .1 .0))) (meant (a .0)))
+    × (now (x .1 .0) ≡ after (strictWriting (length (now (a .1 .0))) (meant (a .0))) 0 (blockBytes (meant (a .0))) (now (a .1 .0)))
+block-into-strict k a r x h = (h .0, h .1)
+
+block-new-strict : (k : _) (a : _) (r : _) (x : _) → BlockNewStrict.Post k a r x → built r ≡ strictNew (a .0) (a .1 .0) (a .1 .1 .0)
+block-new-strict k a r x h = h
+
+-- The register check, frames and plans.
+check : (k : _) (a : _) (r : _) (x : _) → CheckRegister.Post k a r x → Checks (length (now (a .1 .0))) (a .0) r
+check k a r x h = h
+
+to-frame : (k : _) (a : _) (r : _) (x : _) → FrameOut.Post k a r x → ToFrame (now (a .0)) (now (a .1 .0)) r (now (x .1 .0))
+to-frame k a r x h = h
+
+from-frame : (k : _) (a : _) (r : _) (x : _) → FrameBack.Post k a r x → FromFrame (a .1 .0) (a .1 .1 .0) (now (a .0)) (now (a .1 .1 .1 .0)) r (now (x .1 .1 .1 .0))
+from-frame k a r x h = h
+
+check-plan : (k : _) (a : _) (r : _) (x : _) → CheckPlan.Post k a r x → ChecksPlan (a .0) (now (a .1 .0)) (now (a .1 .1 .0)) r
+check-plan k a r x h = h
+
+plan : (k : _) (a : _) (r : _) (x : _) → MakePlan.Post k a r x → Plans (a .0) (now (a .1 .0)) (now (a .1 .1 .0)) r (now (x .1 .1 .0))
+plan k a r x h = h
