@@ -5,8 +5,8 @@ use coap_lite::{MessageClass, MessageType, Packet};
 use std::hint::black_box;
 use std::time::{Duration, Instant};
 
-/// The largest flat form: 9 numbers, and 3 for each of 128 options.
-const MOST_NUMBERS: usize = 9 + 3 * 128;
+/// The largest flat form: 11 numbers, and 4 for each of 128 options.
+const MOST_NUMBERS: usize = 11 + 4 * 128;
 /// The largest datagram that is read.
 const MOST_BYTES: usize = 70_000;
 /// How long one run takes, and how many there are of each side.
@@ -15,13 +15,15 @@ const RUNS: usize = 100;
 
 // crates/ffi/src/lib.rt: a slice is a pointer and a length.
 extern "C" {
-    fn rickwinter_read(strict: bool, datagram: *const u8, len: usize, out: *mut u32, room: usize) -> u32;
-    fn rickwinter_write(
+    fn rickwinter_v2_read(strict: bool, datagram: *const u8, len: usize, out: *mut u32, room: usize) -> u32;
+    fn rickwinter_v2_write(
         strict: bool,
         packet: *const u32,
         numbers: usize,
-        store: *const u8,
+        datagram: *const u8,
         len: usize,
+        edits: *const u8,
+        edited: usize,
         out: *mut u8,
         room: usize,
     ) -> u64;
@@ -30,13 +32,23 @@ extern "C" {
 
 fn read(datagram: &[u8], out: &mut [u32]) -> u32 {
     // SAFETY: the pointers and lengths are those of slices, and the function is proved to stay within them.
-    unsafe { rickwinter_read(false, datagram.as_ptr(), datagram.len(), out.as_mut_ptr(), out.len()) }
+    unsafe { rickwinter_v2_read(false, datagram.as_ptr(), datagram.len(), out.as_mut_ptr(), out.len()) }
 }
 
-fn write(packet: &[u32], store: &[u8], out: &mut [u8]) -> u64 {
+fn write(packet: &[u32], datagram: &[u8], edits: &[u8], out: &mut [u8]) -> u64 {
     // SAFETY: as above.
     unsafe {
-        rickwinter_write(false, packet.as_ptr(), packet.len(), store.as_ptr(), store.len(), out.as_mut_ptr(), out.len())
+        rickwinter_v2_write(
+            false,
+            packet.as_ptr(),
+            packet.len(),
+            datagram.as_ptr(),
+            datagram.len(),
+            edits.as_ptr(),
+            edits.len(),
+            out.as_mut_ptr(),
+            out.len(),
+        )
     }
 }
 
@@ -107,7 +119,7 @@ fn measure(name: &str, datagram: &[u8]) {
     let pairs = [
         least(|| read(black_box(datagram), black_box(&mut numbers)) as u64, || Packet::from_bytes(black_box(datagram))),
         least(
-            || write(black_box(&flat), black_box(datagram), black_box(&mut bytes)),
+            || write(black_box(&flat), black_box(datagram), black_box(&[]), black_box(&mut bytes)),
             || black_box(&theirs).to_bytes_unlimited(),
         ),
         least(
@@ -129,7 +141,7 @@ fn check(name: &str, datagram: &[u8]) {
     assert_eq!(read(datagram, &mut numbers), 0, "{name}");
     let theirs = Packet::from_bytes(datagram).unwrap();
     assert_eq!(meaning_of_flat(&numbers, datagram), meaning(&theirs), "{name}");
-    let length = write(&numbers, datagram, &mut bytes) as usize;
+    let length = write(&numbers, datagram, &[], &mut bytes) as usize;
     assert_eq!(&bytes[..length], datagram, "{name}");
     bytes.fill(0);
     let length = copy(datagram, &mut bytes) as usize;
@@ -139,10 +151,14 @@ fn check(name: &str, datagram: &[u8]) {
 
 type Meaning = ([u32; 4], Vec<u8>, Vec<(u32, Vec<u8>)>, Vec<u8>);
 
-fn meaning_of_flat(numbers: &[u32], store: &[u8]) -> Meaning {
-    let part = |at: usize| store[numbers[at] as usize..][..numbers[at + 1] as usize].to_vec();
-    let options = (0..numbers[8] as usize).map(|i| (numbers[9 + 3 * i], part(10 + 3 * i))).collect();
-    ([numbers[0], numbers[1], numbers[2], numbers[3]], part(4), options, part(6))
+/// What a flat form means whose ranges all lie in the datagram: home 0.
+fn meaning_of_flat(numbers: &[u32], datagram: &[u8]) -> Meaning {
+    let part = |at: usize| {
+        assert_eq!(numbers[at], 0);
+        datagram[numbers[at + 1] as usize..][..numbers[at + 2] as usize].to_vec()
+    };
+    let options = (0..numbers[10] as usize).map(|i| (numbers[11 + 4 * i], part(12 + 4 * i))).collect();
+    ([numbers[0], numbers[1], numbers[2], numbers[3]], part(4), options, part(7))
 }
 
 fn meaning(packet: &Packet) -> Meaning {

@@ -1,6 +1,7 @@
 /* Replays the stored sample of requests and answers (docs/ANSWERS.md) through the functions that C links: reading, in both
  * modes, and writing without a limit, of packets and of raw packets. Where a datagram is read it is also copied, and the
- * copy has to be what is written of the flat form. What no call may touch is looked at after each.
+ * copy has to be what is written of the flat form; its flat form is also damaged, and has to be refused. What no call may
+ * touch is looked at after each.
  *     replay REQUESTS ANSWERS
  */
 #include "rickwinter.h"
@@ -9,14 +10,18 @@
 #include <stdlib.h>
 #include <string.h>
 
+enum { DATAGRAM, EDITS };
 enum { MOST_BYTES = 100000, MOST_ROOM = 71000, MOST_RECORDS = 1000, LONGEST = 400000, UNTOUCHED = 0xAA };
+/* Places in a flat form. */
+enum { TOKEN = 4, PAYLOAD = 7, COUNT = 10, RECORDS = 11, EACH = 4 };
 
 /* The class of each code byte by its name, from the sample's own answers to `class-of`. */
 static char classes[256][64];
 
-static uint8_t store[MOST_BYTES];
-static size_t stored;
-static uint32_t flat[9 + 3 * MOST_RECORDS];
+/* The datagram and the edit store. */
+static uint8_t stores[2][MOST_BYTES];
+static size_t stored[2];
+static uint32_t flat[RECORDS + EACH * MOST_RECORDS];
 static size_t numbers;
 static uint8_t output[MOST_ROOM], copied[MOST_ROOM];
 static char said[LONGEST];
@@ -38,22 +43,39 @@ static uint32_t number(char **line)
     return (uint32_t)strtoull(next(line), NULL, 10);
 }
 
-/* Puts the bytes of a word into the store after those that it has, and says where they stand. */
-static void put_bytes(const char *word, uint32_t range[2])
+/* Puts the bytes of a word into a store after those that it has, and says where they stand. */
+static void put_into(uint32_t home, const char *word, uint32_t range[3])
 {
-    range[0] = (uint32_t)stored;
-    range[1] = 0;
+    uint8_t *to = stores[home] + stored[home];
+    range[0] = home;
+    range[1] = (uint32_t)stored[home];
+    range[2] = 0;
     if (!strncmp(word, "zeros:", 6)) {
-        range[1] = (uint32_t)strtoull(word + 6, NULL, 10);
-        memset(store + stored, 0, range[1]);
+        range[2] = (uint32_t)strtoull(word + 6, NULL, 10);
+        memset(to, 0, range[2]);
     } else if (strcmp(word, "-")) {
-        range[1] = (uint32_t)(strlen(word) / 2);
-        for (uint32_t i = 0; i < range[1]; i++) {
+        range[2] = (uint32_t)(strlen(word) / 2);
+        for (uint32_t i = 0; i < range[2]; i++) {
             char digits[3] = {word[2 * i], word[2 * i + 1], 0};
-            store[stored + i] = (uint8_t)strtoul(digits, NULL, 16);
+            to[i] = (uint8_t)strtoul(digits, NULL, 16);
         }
     }
-    stored += range[1];
+    stored[home] += range[2];
+}
+
+/* The home that a word names, and the word without it. */
+static uint32_t home_of(const char **word)
+{
+    if (strncmp(*word, "e:", 2))
+        return DATAGRAM;
+    *word += 2;
+    return EDITS;
+}
+
+static void put_bytes(const char *word, uint32_t range[3])
+{
+    uint32_t home = home_of(&word);
+    put_into(home, word, range);
 }
 
 static int byte_of(const char *class)
@@ -78,44 +100,46 @@ static bool take_header(char **line)
 static bool take_packet(char **line)
 {
     bool named = take_header(line);
-    put_bytes(next(line), flat + 4);
+    put_bytes(next(line), flat + TOKEN);
     char *options = next(line);
     uint32_t count = 0;
     for (char *option = strtok(options, ","); option && strcmp(option, "-"); option = strtok(NULL, ",")) {
-        uint32_t *record = flat + 9 + 3 * count++;
+        uint32_t *record = flat + RECORDS + EACH * count++;
         record[0] = (uint32_t)strtoull(option, NULL, 10);
         put_bytes(strchr(option, ':') + 1, record + 1);
     }
-    put_bytes(next(line), flat + 6);
-    flat[8] = count;
-    numbers = 9 + 3 * count;
+    put_bytes(next(line), flat + PAYLOAD);
+    flat[COUNT] = count;
+    numbers = RECORDS + EACH * count;
     return named;
 }
 
-static void take_range(const char *word, uint32_t range[2])
+static void take_range(const char *word, uint32_t range[3])
 {
     char *plus;
-    range[0] = (uint32_t)strtoull(word, &plus, 10);
-    range[1] = (uint32_t)strtoull(plus + 1, NULL, 10);
+    range[0] = home_of(&word);
+    range[1] = (uint32_t)strtoull(word, &plus, 10);
+    range[2] = (uint32_t)strtoull(plus + 1, NULL, 10);
 }
 
 static bool take_raw(char **line)
 {
-    uint32_t all[2];
+    uint32_t all[3];
     bool named = take_header(line);
-    put_bytes(next(line), all);
-    take_range(next(line), flat + 4);
+    put_into(DATAGRAM, next(line), all);
+    put_into(EDITS, next(line), all);
+    take_range(next(line), flat + TOKEN);
     char *records = next(line);
-    memset(flat + 9, 0, sizeof flat - 9 * sizeof *flat);
+    memset(flat + RECORDS, 0, sizeof flat - RECORDS * sizeof *flat);
     uint32_t listed = 0;
     for (char *record = strtok(records, ","); record && strcmp(record, "-"); record = strtok(NULL, ",")) {
-        flat[9 + 3 * listed] = (uint32_t)strtoull(record, NULL, 10);
-        take_range(strchr(record, '@') + 1, flat + 10 + 3 * listed++);
+        flat[RECORDS + EACH * listed] = (uint32_t)strtoull(record, NULL, 10);
+        take_range(strchr(record, '@') + 1, flat + RECORDS + EACH * listed++ + 1);
     }
     unsigned long long count = strtoull(next(line), NULL, 10);
-    take_range(next(line), flat + 6);
-    flat[8] = count < UINT32_MAX ? (uint32_t)count : UINT32_MAX;
-    numbers = 9 + 3 * (count <= 128 ? count : 128);
+    take_range(next(line), flat + PAYLOAD);
+    flat[COUNT] = count < UINT32_MAX ? (uint32_t)count : UINT32_MAX;
+    numbers = RECORDS + EACH * (count <= 128 ? count : 128);
     return named;
 }
 
@@ -158,52 +182,99 @@ static const char *say_written(uint64_t answer, size_t room, bool tell_kept)
 static const char *write_all(bool strict, size_t room, bool tell_kept)
 {
     memset(output, UNTOUCHED, sizeof output);
-    return say_written(rickwinter_write(strict, flat, numbers, store, stored, output, room), room, tell_kept);
+    uint64_t answer = rickwinter_v2_write(strict, flat, numbers, stores[DATAGRAM], stored[DATAGRAM], stores[EDITS],
+                                          stored[EDITS], output, room);
+    return say_written(answer, room, tell_kept);
 }
 
-/* Copying a datagram is writing the flat form that was read of it. */
+/* Copying a datagram is writing the flat form that was read of it, whatever the edit store is: here it is the datagram. */
 static bool copies(bool strict)
 {
+    const uint8_t *datagram = stores[DATAGRAM];
+    size_t length = stored[DATAGRAM];
     memset(copied, UNTOUCHED, sizeof copied);
-    uint64_t answer = rickwinter_copy(strict, store, stored, copied, sizeof copied);
+    uint64_t answer = rickwinter_copy(strict, datagram, length, copied, sizeof copied);
     memset(output, UNTOUCHED, sizeof output);
-    uint64_t again = rickwinter_write(strict, flat, RICKWINTER_MOST_NUMBERS, store, stored, output, sizeof output);
+    uint64_t again = rickwinter_v2_write(strict, flat, RICKWINTER_MOST_NUMBERS, datagram, length, datagram, length, output,
+                                         sizeof output);
     return answer == again && !memcmp(copied, output, sizeof output);
+}
+
+/* Whether the flat form is refused with a number over stores of these lengths, and nothing is written. */
+static bool refused(uint64_t refusal, size_t datagram, size_t edits)
+{
+    memset(output, UNTOUCHED, sizeof output);
+    uint64_t answer = rickwinter_v2_write(false, flat, RICKWINTER_MOST_NUMBERS, stores[DATAGRAM], datagram, stores[EDITS], edits,
+                                          output, sizeof output);
+    return answer == RICKWINTER_REFUSED + refusal && untouched(output, output + sizeof output);
+}
+
+/* A home of 2, in the token, the payload and the last option, is refused 11; either store that is too long 10 before it. */
+static bool refuses_homes(void)
+{
+    uint32_t *homes[] = {flat + TOKEN, flat + PAYLOAD, flat + RECORDS + EACH * flat[COUNT] - 3};
+    bool all = true;
+    for (size_t i = 0; i < (flat[COUNT] ? 3 : 2); i++) {
+        *homes[i] = 2;
+        all &= refused(11, stored[DATAGRAM], 0) && refused(10, 70001, 0) && refused(10, stored[DATAGRAM], 70001);
+        *homes[i] = DATAGRAM;
+    }
+    return all;
+}
+
+/* Every range of a packet that was read is one of the datagram. */
+static bool in_datagram(void)
+{
+    bool all = flat[TOKEN] == DATAGRAM && flat[PAYLOAD] == DATAGRAM;
+    for (uint32_t i = 0; i < flat[COUNT]; i++)
+        all &= flat[RECORDS + EACH * i + 1] == DATAGRAM;
+    return all;
+}
+
+static char *say_range(char *at, const uint32_t range[3])
+{
+    return say_hex(at, stores[range[0]] + range[1], range[2]);
 }
 
 static void say_packet(void)
 {
     char *at = said;
     at += sprintf(at, "packet %u %u %u %s %u ", flat[0], flat[1], flat[2], classes[flat[2]], flat[3]);
-    at = say_hex(at, store + flat[4], flat[5]);
+    at = say_range(at, flat + TOKEN);
     *at++ = ' ';
-    if (!flat[8])
+    if (!flat[COUNT])
         *at++ = '-';
-    for (uint32_t i = 0; i < flat[8]; i++) {
-        const uint32_t *record = flat + 9 + 3 * i;
+    for (uint32_t i = 0; i < flat[COUNT]; i++) {
+        const uint32_t *record = flat + RECORDS + EACH * i;
         at += sprintf(at, "%s%u:", i ? "," : "", record[0]);
-        at = say_hex(at, store + record[1], record[2]);
+        at = say_range(at, record + 1);
     }
     *at++ = ' ';
-    say_hex(at, store + flat[6], flat[7]);
+    say_range(at, flat + PAYLOAD);
 }
 
 static const char *read_all(bool strict)
 {
+    const uint8_t *datagram = stores[DATAGRAM];
+    size_t length = stored[DATAGRAM];
     memset(flat, UNTOUCHED, sizeof flat);
-    uint32_t answer = rickwinter_read(strict, store, stored, flat, RICKWINTER_MOST_NUMBERS);
-    size_t handed = answer ? 0 : 9 + 3 * flat[8];
-    if (!untouched(flat + handed, flat + 9 + 3 * MOST_RECORDS))
+    uint32_t answer = rickwinter_v2_read(strict, datagram, length, flat, RICKWINTER_MOST_NUMBERS);
+    size_t handed = answer ? 0 : RECORDS + EACH * flat[COUNT];
+    if (!untouched(flat + handed, flat + RECORDS + EACH * MOST_RECORDS))
         return "numbers that were not handed over are changed";
     if (answer) {
         sprintf(said, "refused %u", answer);
         return said;
     }
+    if (!in_datagram())
+        return "a range that was read is not one of the datagram";
     if (!copies(strict))
         return "a copy is not what is written of the flat form";
+    if (!refuses_homes())
+        return "a home of 2 is not refused";
     say_packet();
     memset(flat, UNTOUCHED, sizeof flat);
-    answer = rickwinter_read(strict, store, stored, flat, handed - 1);
+    answer = rickwinter_v2_read(strict, datagram, length, flat, handed - 1);
     return answer == 12 && untouched(flat, flat + handed) ? said : "a slice that is too short is not refused 12";
 }
 
@@ -214,10 +285,10 @@ static const char *answer(char *line)
     bool strict = strlen(word) > 7 && !strcmp(word + strlen(word) - 7, "-strict");
     if (strict)
         word[strlen(word) - 7] = 0;
-    stored = 0;
+    stored[DATAGRAM] = stored[EDITS] = 0;
     if (!strcmp(word, "read")) {
-        uint32_t all[2];
-        put_bytes(next(&line), all);
+        uint32_t all[3];
+        put_into(DATAGRAM, next(&line), all);
         return read_all(strict);
     }
     bool raw = !strcmp(word, "write-raw");
@@ -259,6 +330,10 @@ int main(int count, char **names)
     if (!requests || !answers) {
         fputs("usage: replay REQUESTS ANSWERS\n", stderr);
         return 2;
+    }
+    if (rickwinter_version() != RICKWINTER_VERSION) {
+        fputs("linked: the archive has another flat form than its declarations\n", stderr);
+        return 1;
     }
     learn_classes(requests, answers);
     char *asked = NULL, *expected = NULL;

@@ -4,9 +4,12 @@
 
 mod comparison;
 mod counts;
+mod edits;
 mod frames;
+mod getters;
 mod plain_answers;
 mod plans;
+mod raw;
 mod register;
 mod requests;
 mod sample;

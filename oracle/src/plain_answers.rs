@@ -52,6 +52,11 @@ fn answer_request(line: &[u8]) -> Option<String> {
         | b"block-write-strict"
         | b"block-size-strict"
         | b"register"
+        | b"write-raw"
+        | b"write-raw-strict"
+        | b"register-raw"
+        | b"get-raw"
+        | b"edit-raw"
         | b"properties"
         | b"plan"
         | b"plan-check"
@@ -118,7 +123,7 @@ fn write(mut words: Words) -> Option<String> {
     Some(write_packet(&parts.packet(), limit, room))
 }
 
-fn write_packet(packet: &Packet, limit: Option<usize>, room: u64) -> String {
+pub fn write_packet(packet: &Packet, limit: Option<usize>, room: u64) -> String {
     let answer = match limit {
         Some(limit) => packet.to_bytes_with_limit(limit),
         None => packet.to_bytes_unlimited(),
@@ -131,13 +136,13 @@ fn write_packet(packet: &Packet, limit: Option<usize>, room: u64) -> String {
 
 // ---- edit scripts
 
-/// A packet on its way through a script, and how many bytes of the store its values took.
+/// A packet on its way through a script, and how many bytes of the edit store its steps took.
 struct Script {
     packet: Packet,
     used: usize,
 }
 
-/// What becomes of a step: coap-lite takes it or can't, or its bytes find no place in the store.
+/// What becomes of a step: coap-lite takes it or can't, or its bytes find no place in the edit store.
 enum Step {
     Taken,
     Outside,
@@ -149,7 +154,7 @@ fn edit(mut words: Words) -> Option<String> {
     let mut script = Script { packet: Packet::new(), used: 0 };
     if start != b"new" {
         let datagram = bytes(start)?;
-        if !script.take(datagram.len()) {
+        if datagram.len() > STORE {
             return Some(refused(10));
         }
         match Packet::from_bytes(&datagram) {
@@ -178,7 +183,7 @@ fn edit(mut words: Words) -> Option<String> {
 }
 
 impl Script {
-    /// Whether the store has room for so many bytes more, which they then take.
+    /// Whether the edit store has room for so many bytes more, which they then take.
     fn take(&mut self, bytes: usize) -> bool {
         self.used += bytes;
         self.used <= STORE

@@ -1,8 +1,9 @@
 //! The register of option numbers: which records of a packet are kept, passed over or refused. "02" is the list of
 //! change requests; a section is one of RFC 7252 unless another is named.
 
-use crate::strict_answers::{judge_records, Judged};
-use crate::words::{or_none, Parts};
+use crate::raw::{Raw, Record};
+use crate::strict_answers::Judged;
+use crate::words::or_none;
 use std::ops::RangeInclusive;
 
 /// 5.10, with RFC 7641 2 for Observe and RFC 7959 2.1 for Block2 and Block1: how long the value of a listed number may be.
@@ -28,12 +29,12 @@ fn is_repeatable(number: u16) -> bool {
 
 /// 01, Register: 10, then 11; then 16 with the index of the first critical record that isn't recognised. Any other record
 /// that isn't is passed over (5.4.1).
-pub fn check(packet: &Parts) -> Judged<String> {
-    judge_records(packet)?;
+pub fn check(packet: &Raw) -> Judged<String> {
+    packet.judge()?;
     let mut kept = Vec::new();
-    for (index, (number, _)) in packet.options.iter().enumerate() {
-        let recognised = is_recognised(&packet.options[..=index], &kept);
-        if !recognised && properties(*number)[0] {
+    for (index, record) in packet.counted().iter().enumerate() {
+        let recognised = is_recognised(&packet.counted()[..=index], &kept);
+        if !recognised && properties(record.number)[0] {
             return Ok(format!("refused 16 {index}"));
         }
         kept.push(recognised);
@@ -44,12 +45,13 @@ pub fn check(packet: &Parts) -> Judged<String> {
 
 /// Of the last of some records: a bad length (5.4.3) and a surplus occurrence (5.4.5) are as good as a number that isn't
 /// listed. 02, [3]: a record that was passed over is no occurrence.
-fn is_recognised(records: &[(u16, Vec<u8>)], kept_before: &[bool]) -> bool {
-    let Some(((number, value), before)) = records.split_last() else {
+fn is_recognised(records: &[Record], kept_before: &[bool]) -> bool {
+    let Some((last, before)) = records.split_last() else {
         return false;
     };
-    let surplus = before.iter().zip(kept_before).any(|((earlier, _), &kept)| kept && earlier == number);
-    lengths(*number).is_some_and(|lengths| lengths.contains(&value.len())) && (is_repeatable(*number) || !surplus)
+    let surplus = before.iter().zip(kept_before).any(|(earlier, &kept)| kept && earlier.number == last.number);
+    let good_length = lengths(last.number).is_some_and(|lengths| lengths.contains(&(last.range.length as usize)));
+    good_length && (is_repeatable(last.number) || !surplus)
 }
 
 /// 5.4.6: critical, unsafe, no cache key.

@@ -4,6 +4,7 @@ mod framed;
 mod listed;
 mod planned;
 mod random;
+mod ranged;
 mod registered;
 mod scripts;
 mod short;
@@ -86,13 +87,24 @@ pub fn outside(out: &mut impl Write) -> io::Result<()> {
     lines.fault
 }
 
-/// The kinds of request that have a strict form, those that have no plain one, and those whose answers have counts of zeros,
-/// which coap-lite doesn't tell.
-const BOTH: [&str; 6] = ["read", "write", "block-new", "block-read", "block-write", "block-size"];
-const STRICT: [&str; 6] = ["register", "properties", "plan", "plan-check", "frame-out", "frame-back"];
+/// The kinds of request that have a strict form; those that coap-lite has no answer to, with no plain form or over two stores;
+/// and those whose answers have counts of zeros, which coap-lite doesn't tell.
+const BOTH: [&str; 7] = ["read", "write", "write-raw", "block-new", "block-read", "block-write", "block-size"];
+const STRICT: [&str; 10] = [
+    "register",
+    "properties",
+    "plan",
+    "plan-check",
+    "frame-out",
+    "frame-back",
+    "write-raw",
+    "register-raw",
+    "get-raw",
+    "edit-raw",
+];
 const COUNTED: [&str; 4] = ["uint-read", "to-uint", "block-read", "edit"];
 
-/// What a strict comparison asks of a request: its strict form; itself, if it has no plain form or its answer has counts.
+/// What a strict comparison asks of a request: its strict form; itself, if coap-lite has no answer to it or not the counts.
 fn strict_forms(line: &str) -> Vec<String> {
     let mut forms = Vec::new();
     if let Some((name, rest)) = line.split_once(' ') {

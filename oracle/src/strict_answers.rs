@@ -1,18 +1,16 @@
 //! The answers that coap-lite can't give, or not all of them: strict messages and blocks here, the other subjects in files
 //! of their own. They are the rules written a second time, straight from the documents: "01" is the scope of work, which has
 //! the numbers of the refusals and their order, and a section is one of RFC 7252 unless another is named. Names of code
-//! bytes alone are coap-lite's.
+//! bytes, the list of content formats and what plain writing answers after 10 and 11 are coap-lite's.
 
+use crate::raw::{Raw, MOST_OPTIONS};
 use crate::uints::Uint;
 use crate::words::{hex, kind, kind_number, number, yes, Parts, Words, DEFAULT_LIMIT, LONGEST_LINE, MOST_ROOM};
-use crate::{counts, frames, plain_answers, plans, register, uints};
+use crate::{counts, edits, frames, getters, plain_answers, plans, register, uints};
 use coap_lite::MessageClass;
 
-/// 01, What a packet is here: the most bytes of a datagram or a store, and the most options.
+/// 01, What a packet is here: the most bytes of a datagram or a store.
 pub const MOST_BYTES: usize = 70_000;
-const MOST_OPTIONS: usize = 128;
-/// 3.1: an extension of two bytes is at most 65535 and stands for 269 more.
-const LONGEST_VALUE: usize = 65_535 + 269;
 /// RFC 7959 2.2: a block's number has at most 20 bits.
 const LARGEST_BLOCK_NUMBER: u64 = 0xf_ffff;
 
@@ -38,7 +36,9 @@ fn answer_request(line: &[u8]) -> Option<Judged<String>> {
     let mut words = Words::of(line);
     let answer = match words.word()? {
         b"read-strict" => read(&words.bytes()?).map(|packet| packet.shown()),
-        b"write-strict" => write(limit(words.word()?)?, words.number(MOST_ROOM)?, &words.parts()?),
+        b"write-strict" => write(limit(words.word()?)?, words.number(MOST_ROOM)?, &Raw::named(&mut words)?),
+        b"write-raw" => kept(write_plain(limit(words.word()?)?, words.number(MOST_ROOM)?, &Raw::of(&mut words)?)),
+        b"write-raw-strict" => kept(write(limit(words.word()?)?, words.number(MOST_ROOM)?, &Raw::of(&mut words)?)),
         b"block-new-strict" => block_new(words.number(u64::MAX)?, words.flag()?, words.number(u64::MAX)?),
         b"block-read" => plain_block_read(&words.bytes()?),
         b"block-read-strict" => block_read(&words.bytes()?),
@@ -55,7 +55,11 @@ fn answer_request(line: &[u8]) -> Option<Judged<String>> {
         b"plan-check" => plans::answer_check(&mut words)?,
         b"frame-out" => kept(frames::answer_out(&mut words)?),
         b"frame-back" => kept(frames::answer_back(&mut words)?),
-        b"register" => register::check(&words.parts()?),
+        b"register" => register::check(&Raw::named(&mut words)?),
+        b"register-raw" => register::check(&Raw::of(&mut words)?),
+        b"get-raw" => Ok(getters::answer(&mut words)?),
+        // what follows a step that is refused isn't looked at
+        b"edit-raw" => return Some(Ok(edits::answer(&mut words)?)),
         b"properties" => Ok(register::properties(words.option_number()?).map(yes).join(" ")),
         _ => return None,
     };
@@ -158,8 +162,14 @@ fn limit(word: &[u8]) -> Option<u64> {
 }
 
 /// 3, in the order of 01, Writing: 10, 11, 7, 2, 8, 5, 12.
-fn write(limit: u64, room: u64, packet: &Parts) -> Judged<String> {
-    judge_records(packet)?;
+fn write(limit: u64, room: u64, packet: &Raw) -> Judged<String> {
+    written(&layout(limit, packet)?, room)
+}
+
+/// What is written, or what is refused before 12.
+fn layout(limit: u64, packet: &Raw) -> Judged<Vec<u8>> {
+    packet.judge()?;
+    let packet = packet.meaning();
     demand(packet.version == 1, 7)?;
     demand(packet.token.len() <= 8, 2)?;
     // 4.1: an empty message carries nothing
@@ -182,15 +192,13 @@ fn write(limit: u64, room: u64, packet: &Parts) -> Judged<String> {
         bytes.extend(&packet.payload);
     }
     demand(bytes.len() as u64 <= limit, 5)?;
-    written(&bytes, room)
+    Ok(bytes)
 }
 
-/// 01, Writing: 10, then the causes of 11. A request's ranges are inside its store.
-pub fn judge_records(packet: &Parts) -> Judged<()> {
-    demand(packet.store() <= MOST_BYTES, 10)?;
-    demand(packet.version <= 3 && packet.token.len() <= 15 && packet.options.len() <= MOST_OPTIONS, 11)?;
-    demand(packet.options.iter().all(|(_, value)| value.len() <= LONGEST_VALUE), 11)?;
-    demand(packet.options.windows(2).all(|pair| pair[0].0 <= pair[1].0), 11)
+/// 01, Writing, plain: 10 and 11; then coap-lite decides.
+fn write_plain(limit: u64, room: u64, packet: &Raw) -> Judged<String> {
+    packet.judge()?;
+    Ok(plain_answers::write_packet(&packet.meaning().packet(), Some(limit as usize), room))
 }
 
 /// 3.1: the nibble of a number, and its extension.

@@ -1,5 +1,6 @@
 //! The words of requests and answers (numbers, bytes, classes, options and whole packets) and their limits.
 
+use crate::raw::{homed_bytes, Home};
 use coap_lite::{CoapOption, MessageClass, MessageType, Packet, RequestType, ResponseType};
 use std::fmt::Write;
 use std::sync::OnceLock;
@@ -11,11 +12,11 @@ pub const LONGEST_LINE: usize = 200_000;
 pub const DEFAULT_LIMIT: usize = 1_152;
 /// The longest output that a request can lend.
 pub const MOST_ROOM: u64 = 71_000;
-/// The most bytes of a word `zeros:N`, and of the store of a packet that a request names by its parts.
+/// The most bytes of a word `zeros:N`, and of each store of a packet that a request names by its parts.
 const MOST_NAMED: u64 = 100_000;
 /// The most values of a plan, and the most that a request can lend for one.
 pub const MOST_VALUES: u64 = 40_000;
-/// How many bytes the store of an edit script holds.
+/// How many bytes the edit store of a script holds, and a datagram at most.
 pub const STORE: usize = 70_000;
 
 /// What is left of a line. Words stand one space apart, so a second space makes an empty word, which is no word of
@@ -77,17 +78,23 @@ impl<'a> Words<'a> {
         (numbers.len() as u64 <= count).then_some(numbers)
     }
 
+    /// A PACKET, wherever its values are.
     pub fn parts(&mut self) -> Option<Parts> {
-        let parts = Parts {
-            version: self.byte()?,
-            kind: self.kind()?,
-            class: self.class()?,
-            id: self.number(65535)? as u16,
-            token: self.bytes()?,
-            options: options(self.word()?)?,
-            payload: self.bytes()?,
-        };
-        (parts.store() as u64 <= MOST_NAMED).then_some(parts)
+        Some(self.homed_parts()?.0)
+    }
+
+    /// A PACKET, and the homes of its token, its values and its payload.
+    pub fn homed_parts(&mut self) -> Option<(Parts, Vec<Home>)> {
+        let (version, kind, class, id) = (self.byte()?, self.kind()?, self.class()?, self.number(65535)? as u16);
+        let (token_home, token) = homed_bytes(self.word()?)?;
+        let values = options_of(self.word()?, homed_bytes)?;
+        let (payload_home, payload) = homed_bytes(self.word()?)?;
+        let value_homes = values.iter().map(|&(_, (home, _))| home);
+        let homes: Vec<Home> = [token_home].into_iter().chain(value_homes).chain([payload_home]).collect();
+        let options = values.into_iter().map(|(number, (_, value))| (number, value)).collect();
+        let parts = Parts { version, kind, class, id, token, options, payload };
+        let fits = |home| parts.store_of(home, &homes) as u64 <= MOST_NAMED;
+        (fits(Home::Datagram) && fits(Home::Edits)).then_some((parts, homes))
     }
 }
 
@@ -140,29 +147,50 @@ impl Parts {
         self.packet().to_bytes_unlimited().expect("there is no limit to exceed")
     }
 
-    /// How many bytes the packet's store has: token, values and payload.
-    pub fn store(&self) -> usize {
-        let values: usize = self.options.iter().map(|(_, value)| value.len()).sum();
-        self.token.len() + values + self.payload.len()
+    /// Token, values and payload.
+    fn contents(&self) -> impl Iterator<Item = &[u8]> {
+        let values = self.options.iter().map(|(_, value)| &value[..]);
+        [&self.token[..]].into_iter().chain(values).chain([&self.payload[..]])
     }
 
-    /// The words of a request.
+    /// How many bytes the packet's stores have together.
+    pub fn store(&self) -> usize {
+        self.contents().map(<[u8]>::len).sum()
+    }
+
+    /// How many bytes are in one of the stores, by the homes of token, values and payload.
+    fn store_of(&self, home: Home, homes: &[Home]) -> usize {
+        self.contents().zip(homes).filter(|&(_, &its)| its == home).map(|(bytes, _)| bytes.len()).sum()
+    }
+
+    /// The words of a request, all bytes being in the datagram.
     pub fn asked(&self) -> String {
+        self.asked_at(&mut || Home::Datagram)
+    }
+
+    /// The words of a request, with a home for the token, for each value and for the payload.
+    pub fn asked_at(&self, home: &mut dyn FnMut() -> Home) -> String {
         let (version, kind, class) = (self.version, kind_number(self.kind), class_word(self.class));
-        format!("{version} {kind} {class} {} {}", self.id, self.contents())
+        format!("{version} {kind} {class} {} {}", self.id, self.content_words(home))
     }
 
     /// The words of an answer, which has the code byte before the class.
     pub fn shown(&self) -> String {
         let (version, kind, class) = (self.version, kind_number(self.kind), class_word(self.class));
         let code = u8::from(self.class);
-        format!("packet {version} {kind} {code} {class} {} {}", self.id, self.contents())
+        let contents = self.content_words(&mut || Home::Datagram);
+        format!("packet {version} {kind} {code} {class} {} {contents}", self.id)
     }
 
-    fn contents(&self) -> String {
+    fn content_words(&self, home: &mut dyn FnMut() -> Home) -> String {
+        let mut word = |bytes: &[u8]| match home() {
+            Home::Datagram => hex(bytes),
+            Home::Edits => format!("e:{}", hex(bytes)),
+        };
+        let token = word(&self.token);
         let options: Vec<String> =
-            self.options.iter().map(|(number, value)| format!("{number}:{}", hex(value))).collect();
-        format!("{} {} {}", hex(&self.token), or_none(&options.join(",")), hex(&self.payload))
+            self.options.iter().map(|(number, value)| format!("{number}:{}", word(value))).collect();
+        format!("{token} {} {}", or_none(&options.join(",")), word(&self.payload))
     }
 }
 
@@ -223,12 +251,17 @@ pub fn yes(is: bool) -> String {
 
 /// `NUMBER:HEX` with commas between, or `-`.
 pub fn options(word: &[u8]) -> Option<Vec<(u16, Vec<u8>)>> {
+    options_of(word, bytes)
+}
+
+/// A number, a colon and the word of a value, with commas between; or `-`.
+fn options_of<T>(word: &[u8], value: fn(&[u8]) -> Option<T>) -> Option<Vec<(u16, T)>> {
     if word == b"-" {
         return Some(Vec::new());
     }
     let option = |text: &[u8]| {
         let (left, right) = split(text, b':');
-        Some((number(left, 65535)? as u16, bytes(right?)?))
+        Some((number(left, 65535)? as u16, value(right?)?))
     };
     word.split(|&byte| byte == b',').map(option).collect()
 }

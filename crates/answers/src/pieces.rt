@@ -20,7 +20,7 @@ pub struct Kept {
 
 // Answers the lines of a piece. How far they go stands in `waiting`.
 pub fn answer(kept: Kept, piece: &[u8]) -> Kept {
-    let mut store = [0u8; 100000];
+    let mut store = [0u8; 200000];
     let mut room = [0u8; 71000];
     let mut out = [0u8; 600000];
     answer_over(kept, piece, &mut store, &mut room, &mut out)
@@ -29,7 +29,7 @@ pub fn answer(kept: Kept, piece: &[u8]) -> Kept {
 fn answer_over(
     kept: Kept,
     piece: &[u8],
-    store: &mut [u8; 100000],
+    store: &mut [u8; 200000],
     room: &mut [u8; 71000],
     out: &mut [u8; 600000],
 ) -> Kept {

@@ -27,6 +27,17 @@ pub fn answer(
     if name.index != NOWHERE {
         return plan_requests::answer(name, line, store, out, place);
     }
+    answer_more(line, store, room, out, place)
+}
+
+// Answers a request on compaction, paths or streams, or one that is answered by value.
+fn answer_more(
+    line: &[u8],
+    store: &mut [u8],
+    room: &mut [u8],
+    out: &mut [u8],
+    place: usize,
+) -> usize {
     answer_value(line, store, room).put(out, place, store, room)
 }
 

@@ -17,7 +17,7 @@ use words::numbers_end;
 // A packet on its way through a script.
 pub struct Script {
     pub packet: Packet,
-    // How many bytes of the store are taken.
+    // How many bytes of the edit store are taken.
     pub used: usize,
     // Where the last step ends.
     pub next: usize,
@@ -45,14 +45,14 @@ impl Script {
         self
     }
 
-    // The script ends here, since its values find no place in the store.
+    // The script ends here, since its values find no place in the edit store.
     fn full(mut self) -> Script {
         let why = Refusal::NoRoom;
         self.refused = why.number() as u64;
         self
     }
 
-    // After an edit, whose value takes the store up to `used`.
+    // After an edit, whose value takes the edit store up to `used`.
     fn edited(self, edited: Edited, used: usize, next: usize) -> Script {
         let outcome = edited.outcome;
         let packet = edited.packet;
@@ -81,8 +81,8 @@ fn number_of(outcome: Outcome) -> u64 {
     }
 }
 
-// Takes the steps of a script, up to the first that is refused or no step. Those of a raw one name ranges of the store.
-pub fn played(raw: bool, start: Script, line: &[u8], store: &mut [u8]) -> Script {
+// Takes the steps of a script, up to the first that is refused or no step. Those of a raw one name ranges.
+pub fn played(raw: bool, start: Script, line: &[u8], edits: &mut [u8]) -> Script {
     let mut script = start;
     let mut i = 0;
     while i < line.len() {
@@ -93,24 +93,24 @@ pub fn played(raw: bool, start: Script, line: &[u8], store: &mut [u8]) -> Script
         if byte_at(line, script.next) != b' ' {
             return script;
         }
-        script = stepped(raw, script, line, store);
+        script = stepped(raw, script, line, edits);
     }
     script
 }
 
-fn stepped(raw: bool, script: Script, line: &[u8], store: &mut [u8]) -> Script {
+fn stepped(raw: bool, script: Script, line: &[u8], edits: &mut [u8]) -> Script {
     if raw {
         let step = raw_step_at(line, script.next, script.used);
         if step.index == ASK {
             return script.lost();
         }
-        return taken(script, step, line, store);
+        return taken(script, step, line, edits);
     }
-    let step = step_at(line, script.next, store, script.used);
+    let step = step_at(line, script.next, edits, script.used);
     if step.index == ASK {
         return asked(script, line, step.asked);
     }
-    taken(script, step, line, store)
+    taken(script, step, line, edits)
 }
 
 fn asked(script: Script, line: &[u8], at: usize) -> Script {
@@ -121,7 +121,7 @@ fn asked(script: Script, line: &[u8], at: usize) -> Script {
     script.asking(at, next)
 }
 
-fn taken(script: Script, step: Step, line: &[u8], store: &mut [u8]) -> Script {
+fn taken(script: Script, step: Step, line: &[u8], edits: &mut [u8]) -> Script {
     let values = step.values;
     let next = ended(line, values.next);
     let packet = script.packet;
@@ -131,5 +131,5 @@ fn taken(script: Script, step: Step, line: &[u8], store: &mut [u8]) -> Script {
     if values.end == NOWHERE {
         return script.full();
     }
-    script.edited(take(packet, step, store), values.end, next)
+    script.edited(take(packet, step, edits), values.end, next)
 }

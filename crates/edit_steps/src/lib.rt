@@ -1,4 +1,4 @@
-// The steps of an edit script, read from the words of a line: with values as bytes, or with ranges of the store.
+// The steps of an edit script, read from the words of a line: with values as bytes, or with ranges.
 mod names;
 mod reading_steps;
 mod values;

@@ -35,13 +35,13 @@ pub struct Step {
     pub asked: usize,
 }
 
-// Reads a step whose values are bytes, which go to the store from a place on.
-pub fn step_at(line: &[u8], at: usize, store: &mut [u8], used: usize) -> Step {
+// Reads a step whose values are bytes, which go to the edit store from a place on.
+pub fn step_at(line: &[u8], at: usize, edits: &mut [u8], used: usize) -> Step {
     let name = named(line, past(line, at, b" ; "));
     let number = number_of(line, name);
     let class = class_of(line, name.index, number.next);
     let code = class.class;
-    let values = values_of(line, name.index, number.value, class.next, store, used);
+    let values = values_of(line, name.index, number.value, class.next, edits, used);
     Step {
         index: name.index,
         number: number.value,
@@ -51,7 +51,7 @@ pub fn step_at(line: &[u8], at: usize, store: &mut [u8], used: usize) -> Step {
     }
 }
 
-// Reads a step whose values are ranges of the store.
+// Reads a step whose values are ranges.
 pub fn raw_step_at(line: &[u8], at: usize, used: usize) -> Step {
     let name = named(line, past(line, at, b" ; "));
     let number = number_of(line, name);
@@ -95,17 +95,17 @@ fn values_of(
     index: usize,
     number: u64,
     at: usize,
-    store: &mut [u8],
+    edits: &mut [u8],
     used: usize,
 ) -> Values {
     match index {
-        ADD | TOKEN | PAYLOAD => one(values_at(line, at, store, used)),
+        ADD | TOKEN | PAYLOAD => one(values_at(line, at, edits, used)),
         SET => {
             let none = none_at(line, at);
             if none != NOWHERE {
                 return Values::none(used, none);
             }
-            values_at(line, at, store, used)
+            values_at(line, at, edits, used)
         }
         CONTENT_FORMAT | OBSERVE => Values::start(low32(used as u64), past_uint(used, number), at),
         _ => Values::none(used, at),

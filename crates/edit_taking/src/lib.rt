@@ -16,38 +16,40 @@ use editing::Edited;
 use header::Header;
 use header::MessageType;
 use packet::Packet;
+use packet::Range;
 use refusal::Outcome;
 use words::low8;
 use words::low16;
 use words::low32;
 
 // Takes a step.
-pub fn take(packet: Packet, step: Step, store: &mut [u8]) -> Edited {
+pub fn take(packet: Packet, step: Step, edits: &mut [u8]) -> Edited {
     let index = step.index;
     let values = step.values;
-    let ranges = values.ranges;
-    let start = ranges[0];
-    let len = ranges[1];
+    let first = values.first();
     match index {
         CONTENT_FORMAT => typed_options::set_content_format(
             packet,
-            store,
-            start,
+            edits,
+            first.start,
             low16(step.number),
         ),
-        OBSERVE => typed_options::set_observe_value(packet, store, start, low32(step.number)),
-        _ => take_ranges(packet, step, start, len),
+        OBSERVE => typed_options::set_observe_value(packet, edits, first.start, low32(step.number)),
+        _ => take_ranges(packet, step, first),
     }
 }
 
-// Takes a step that leaves the store.
-fn take_ranges(packet: Packet, step: Step, start: u32, len: u32) -> Edited {
+// Takes a step that leaves the stores.
+fn take_ranges(packet: Packet, step: Step, first: Range) -> Edited {
     let index = step.index;
+    let home = first.home;
+    let start = first.start;
+    let len = first.len;
     match index {
-        ADD => editing::add_option(packet, low16(step.number), start, len),
+        ADD => editing::add_option(packet, low16(step.number), home, start, len),
         SET => set(packet, step),
-        TOKEN => editing::set_token(packet, start, len),
-        PAYLOAD => editing::set_payload(packet, start, len),
+        TOKEN => editing::set_token(packet, home, start, len),
+        PAYLOAD => editing::set_payload(packet, home, start, len),
         _ => clear_or_set_header(packet, step),
     }
 }
@@ -58,16 +60,16 @@ fn set(packet: Packet, step: Step) -> Edited {
     set_first(packet, low16(step.number), &ranges, values.count)
 }
 
-fn set_first(packet: Packet, number: u16, ranges: &[u32; 258], count: usize) -> Edited {
-    editing::set_option(packet, number, pairs(ranges, count))
+fn set_first(packet: Packet, number: u16, ranges: &[u32; 387], count: usize) -> Edited {
+    editing::set_option(packet, number, threes(ranges, count))
 }
 
-// The first pairs of a list of numbers.
-fn pairs(numbers: &[u32], count: usize) -> &[u32] {
-    if numbers.len() / 2 < count {
+// The first threes of a list of numbers.
+fn threes(numbers: &[u32], count: usize) -> &[u32] {
+    if numbers.len() / 3 < count {
         return numbers;
     }
-    &numbers[0..count * 2]
+    &numbers[0..count * 3]
 }
 
 fn clear_or_set_header(packet: Packet, step: Step) -> Edited {

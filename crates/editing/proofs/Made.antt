@@ -17,7 +17,7 @@ use Rattle.packet.specs.declared.Packet.{Packet}
 use Rattle.packet.specs.declared.OptionRecord.{OptionRecord}
 use Rattle.packet.specs.declared.Range.{Range}
 use Rattle.judging.specs.Judge.{falling, misordered}
-use Rattle.splicing.specs.Splice.{packetWith, withRecords, roomy, recordOf}
+use Rattle.splicing.specs.Splice.{packetWith, withRecords, roomy, recordOf, rangesIn, homeless, homed}
 use Rattle.editing.specs.Edit.{orderly, inserted, removed, replaced, tokenSet, payloadSet, added, optionSet, cleared, clearedAll}
 use Rattle.editing.proofs.Records.{all-of, falling-removed, falling-inserted, inserted-nothing}
 use Rattle.judging.proofs.Order.{in-order}
@@ -43,6 +43,12 @@ module _ (p q : Packet) where
   of-given : (rs : List OptionRecord) (token payload : Range) → misordered p ≡ false → length rs ≤ maxOptions → given (packetWith p token rs payload) ≡ given q
       → Made p token rs payload q
   of-given rs token payload m l e = record { sound = m; few = l; is = cc }
+
+  -- An edit whose ranges came as numbers: their homes are good, and it is done with the ranges.
+  pub made-homed : (l : List ℕ) (edit : List Range → Answer Packet) → homed l edit ≡ given q → (homeless l ≡ false) × (edit (rangesIn l) ≡ given q)
+  made-homed l edit =
+      on (λ (b : Answer Packet). b ≡ given q → (homeless l ≡ false) × (edit (rangesIn l) ≡ given q)) (homeless l)
+      (λ m e. not-refused (sym e)) (λ m e. (m, e))
 
   pub made-roomy : (rs : List OptionRecord) → orderly p (roomy p rs) ≡ given q → Made p (p .token) rs (p .payload) q
   made-roomy rs e =

@@ -1,4 +1,4 @@
--- What edits do to a packet's meaning, in any store: an added value stands at its place and nothing else moves, and so on.
+-- What edits do to a packet's meaning, in any two stores: an added value stands at its place and nothing else moves, and so on.
 use Prim.Native.Nat.{ℕ, _-_}
 use mathlib.Core.Path.{_≡_, refl, sym, ap, _∙_}
 use mathlib.Core.Bool.{Bool, true, false}
@@ -10,7 +10,7 @@ use Rattle.ground.specs.Choice.{pick, either}
 use Rattle.rfc.specs.Message.{Rising}
 use Rattle.refusal.specs.Answer.{given}
 use Rattle.packet.specs.Limits.{maxOptions}
-use Rattle.packet.specs.Packet.{none, bytesOf, recordsOf}
+use Rattle.packet.specs.Packet.{none, Stores, bytesOf, recordsOf}
 use Rattle.packet.specs.Meaning.{optionOf, meaning}
 use Rattle.packet.specs.declared.Packet.{Packet}
 use Rattle.packet.specs.declared.OptionRecord.{OptionRecord}
@@ -29,7 +29,7 @@ map-pick : {A B : Type 0} (f : A → B) (t : Bool) (xs ys : List A) → map f (p
 map-pick f true xs ys = refl
 map-pick f false xs ys = refl
 
-module _ (s : List ℕ) where
+module _ (s : Stores) where
   -- The options of records that were inserted or removed are those of the records, inserted or removed.
   map-up-to : (n : ℕ) (rs : List OptionRecord) → upTo n rs ≡ upToBy (λ o. o .number) n (map (optionOf s) rs)
   map-up-to n [] = refl

@@ -6,7 +6,7 @@ use mathlib.Core.List.{List}
 use lib.ListN.{length}
 use Rattle.refusal.specs.Answer.{Answer, after, Beside, beside, answered}
 use Rattle.refusal.proofs.Answers.{answered-beside}
-use Rattle.packet.specs.Packet.{newPacket}
+use Rattle.packet.specs.Packet.{Stores, newPacket}
 use Rattle.packet.specs.declared.Packet.{Packet}
 use Rattle.writing.specs.Writing.{bytesWritten}
 use Rattle.flat.specs.Flat.{flat}
@@ -26,7 +26,7 @@ module _ (a : Answer Packet) (b : Beside Packet) (e : b ≡ beside newPacket a) 
     handed-over r h =
         (ap numberIn (h .0 ∙ (λ i. handed (length old) (answer-is i))), h .1 ∙ (λ i. after (handed (length old) (answer-is i)) 0 (flat (packet-is i)) old))
 
-    pub copied : (r : Answer ℕ) (strict : Bool) (s : List ℕ) → (r ≡ copying strict (length old) s (answered b)) × (new ≡ after (copying strict (length old) s (answered b)) 0 (bytesWritten strict s (b .value)) old)
+    pub copied : (r : Answer ℕ) (strict : Bool) (s : Stores) → (r ≡ copying strict (length old) s (answered b)) × (new ≡ after (copying strict (length old) s (answered b)) 0 (bytesWritten strict s (b .value)) old)
         → (lengthIn r ≡ lengthIn (copying strict (length old) s a)) × (new ≡ after (copying strict (length old) s a) 0 (bytesWritten strict s (packetOf a)) old)
     copied r strict s h =
         (ap lengthIn (h .0 ∙ (λ i. copying strict (length old) s (answer-is i))), h .1 ∙ (λ i. after (copying strict (length old) s (answer-is i)) 0 (bytesWritten strict s (packet-is i)) old))

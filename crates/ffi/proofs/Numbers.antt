@@ -6,16 +6,20 @@ use mathlib.Core.List.{List}
 use native.Mathlib.Omega.{arith}
 use lib.Dec.{T, ltb, eqb}
 use lib.ListN.{length, getD, length-take}
+use borrow.Author.Tests.{ltb-false}
 use Rattle.ground.specs.Choice.{both, either}
 use Rattle.ground.specs.Table.{listed}
-use Rattle.ground.proofs.Choice.{on, on-lt, on-le, on-eq}
+use Rattle.ground.proofs.Choice.{on, on-lt, on-le, on-eq, neither}
 use Rattle.refusal.specs.Number.{numbers}
 use Rattle.refusal.specs.Answer.{Answer, given, refused, onward}
 use Rattle.refusal.proofs.Answers.{Given, on-given, given-onward}
 use Rattle.header.specs.Header.{rawIn, versionOf, tokenOf}
 use Rattle.header.specs.declared.HeaderRaw.{HeaderRaw}
-use Rattle.packet.specs.Packet.{recordsOf}
-use Rattle.judging.specs.Judge.{badPacket}
+use Rattle.packet.specs.Packet.{Stores, recordsOf}
+use Rattle.packet.specs.declared.Home.{Home}
+use Rattle.packet.specs.declared.Home.the-variants.{Datagram, Edits}
+use Rattle.judging.specs.Judge.{lengthsOf, tooLong, lengthIn, badPacket}
+use Rattle.judging.specs.declared.Lengths.{Lengths}
 use Rattle.packet.specs.declared.Packet.{Packet}
 use Rattle.packet.specs.declared.OptionRecord.{OptionRecord}
 use Rattle.judging.proofs.Good.{good, options-small}
@@ -29,23 +33,30 @@ use Rattle.measuring.proofs.Sizes.{marker-small}
 use Rattle.writing.proofs.Sizes.{sent-inside, written-length}
 use Rattle.flat.specs.Flat.{flat, putting}
 use Rattle.ffi.specs.Handed.{handed, numberIn}
-use Rattle.ffi.specs.Copied.{copying, lengthIn}
+use Rattle.ffi.specs.Copied.{copying, lengthIn as numberOf}
 
--- The bytes of a good packet over a store that is not too long are fewer than 2^32.
-bytes-below : (strict : Bool) (s : List ℕ) (p : Packet) → length s ≤ 70000 → badPacket (length s) p ≡ false → length (bytesWritten strict s p) < 4294967296
+-- Neither of two stores that are not too long has over 70,000 bytes.
+short : (lengths : Lengths) → tooLong lengths ≡ false → (h : Home) → lengthIn lengths h ≤ 70000
+unfolding tooLong
+short lengths e Datagram = ltb-false 70000 (lengths .datagram) (neither (ltb 70000 (lengths .datagram)) (ltb 70000 (lengths .edits)) e .0)
+short lengths e Edits = ltb-false 70000 (lengths .edits) (neither (ltb 70000 (lengths .datagram)) (ltb 70000 (lengths .edits)) e .1)
+
+-- The bytes of a good packet over stores that are not too long are fewer than 2^32.
+bytes-below : (strict : Bool) (s : Stores) (p : Packet) → tooLong (lengthsOf s) ≡ false → badPacket (lengthsOf s) p ≡ false → length (bytesWritten strict s p) < 4294967296
 bytes-below strict s p h e =
-    let g = good (length s) p e in
+    let g = good (lengthsOf s) p e in
+    let payload = sentPayload strict (p .header .code) (p .payload) in
     rw (written-length strict s p g)
-    (omega (arith, g .token, g .count, sent-inside (length s) strict (p .header .code) (p .payload) (g .payload), options-small (length s) 0 (recordsOf p) (g .values), length-take (p .count) (p .options), marker-small (sentPayload strict (p .header .code) (p .payload) .len)))
+    (omega (arith, g .token-length, g .count, sent-inside (lengthsOf s) strict (p .header .code) (p .payload) (g .payload), short (lengthsOf s) h (payload .home), options-small (lengthsOf s) 0 (recordsOf p) (g .values), length-take (p .count) (p .options), marker-small (payload .len)))
 
 abbrev Below : ℕ → Type 0
 Below n = n < 4294967296
 
-written-below : (strict : Bool) (limit : Limit) (room : ℕ) (s : List ℕ) (p : Packet) → Given Below (writing strict limit room s p)
+written-below : (strict : Bool) (limit : Limit) (room : ℕ) (s : Stores) (p : Packet) → Given Below (writing strict limit room s p)
 unfolding writing limited
 written-below strict limit room s p =
-    on-lt (Given Below) 70000 (length s) (λ a. tt)
-    (λ a. on (Given Below) (badPacket (length s) p) (λ b. tt)
+    on (Given Below) (tooLong (lengthsOf s)) (λ a. tt)
+    (λ a. on (Given Below) (badPacket (lengthsOf s) p) (λ b. tt)
     (λ b. given-onward (λ _. Unit {0}) Below (strictly strict p) _ (always (strictly strict p))
     (λ _ _. on (Given Below) (over limit (counted strict p)) (λ h. tt)
     (λ h. on-lt (Given Below) room (length (bytesWritten strict s p)) (λ j. tt) (λ j. bytes-below strict s p a b)))))
@@ -55,11 +66,11 @@ written-below strict limit room s p =
     always (refused k) = tt
 
 -- A length that is answered is below 2^32, and a refusal is not.
-pub length-below : (strict : Bool) (room : ℕ) (s : List ℕ) (a : Answer Packet) (n : ℕ) → copying strict room s a ≡ given n → n < 4294967296
+pub length-below : (strict : Bool) (room : ℕ) (s : Stores) (a : Answer Packet) (n : ℕ) → copying strict room s a ≡ given n → n < 4294967296
 length-below strict room s (given p) n e = on-given Below _ n (written-below strict _ room s p) e
 length-below strict room s (refused k) n e = on-given Below _ n tt e
 
-pub refusal-above : (a : Answer ℕ) (k : ℕ) → a ≡ refused k → 4294967296 ≤ lengthIn a
+pub refusal-above : (a : Answer ℕ) (k : ℕ) → a ≡ refused k → 4294967296 ≤ numberOf a
 refusal-above a k e = rw e (omega arith)
 
 -- A refusal's number is on the page of refusals.

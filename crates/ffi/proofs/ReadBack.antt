@@ -1,30 +1,39 @@
 -- What reading hands over leads back to the packet that was read, so writing it is copying the datagram.
-use Prim.Native.Nat.{ℕ, zero, suc, _+_, _-_, _/_, _%_}
+use Prim.Native.Nat.{ℕ, zero, suc, _+_, _-_, _/_, _%_, _≤_}
 use mathlib.Core.Path.{_≡_, refl, sym, ap, subst, _∙_}
-use mathlib.Core.Bool.{Bool}
-use mathlib.Core.List.{List, _++_}
+use mathlib.Core.Bool.{Bool, true, false}
+use mathlib.Core.List.{List, [], _++_}
 use native.Mathlib.Omega.{arith}
 use lib.ListN.{length, drop, getD, replicate}
 use lib.Seq.{drop-append-seam}
 use borrow.Author.Tests.{le-ltb}
 use Rattle.ground.specs.Part.{Bytes}
 use Rattle.ground.proofs.Choice.{on, on-lt, on-le, on-eq}
-use Rattle.refusal.specs.Answer.{Answer, given, refused, onward}
+use Rattle.refusal.specs.Answer.{Answer, given, refused, onward, fitted}
 use Rattle.refusal.proofs.Answers.{Given, on-given, given-onward}
+use Rattle.rfc.specs.Message.{Message, layout}
 use Rattle.class.specs.Class.{byteOf, classOf}
+use Rattle.class.specs.declared.MessageClass.{MessageClass}
+use Rattle.class.specs.declared.MessageClass.the-variants.{Empty, Request, Response, Reserved}
 use Rattle.header.specs.Header.{headerOf, tokenOf}
 use Rattle.header.specs.declared.HeaderRaw.{HeaderRaw}
 use Rattle.class.proofs.Class.{class-back}
-use Rattle.packet.specs.Packet.{none, recordsOf}
+use Rattle.packet.specs.Packet.{stores, none, bytesOf, recordsOf}
+use Rattle.packet.specs.Meaning.{meaning}
 use Rattle.packet.specs.declared.Packet.{Packet}
+use Rattle.packet.specs.declared.Range.{Range}
+use Rattle.judging.specs.Judge.{lengthsOf, tooLong}
 use Rattle.judging.proofs.Good.{good}
 use Rattle.option_reading.specs.Option.{Place, ended, option, extended, valueAt, lengthAt, optionAt, placeAt, end}
 use Rattle.reading.specs.Options.{Tail, options, before}
 use Rattle.reading.specs.Reading.{longest, packetOf, reading}
 use Rattle.reading.proofs.Taken.{Taken, taken}
-use Rattle.reading.proofs.Accept.{records-found}
+use Rattle.reading.proofs.Accept.{records-found, means}
 use Rattle.reading.proofs.Sound.{given-place}
 use Rattle.reading.proofs.Kept.{Kept, kept}
+use Rattle.measuring.specs.Measuring.{sentPayload, counted, strictly, limited}
+use Rattle.measuring.specs.declared.Limit.the-variants.{Unlimited}
+use Rattle.writing.specs.Writing.{bytesWritten, writing}
 use Rattle.flat.specs.Flat.{flat}
 use Rattle.unflat.specs.Made.{Spared, Made}
 use Rattle.unflat.proofs.Inverse.{unflat-flat}
@@ -81,6 +90,32 @@ packet-filled s raw t h =
       rest = drop-append-seam (t .records) (replicate (128 - length (t .records)) none);
     }
 
+-- What a payload means that is dropped or sent, where the payload itself means one thing over two edit stores.
+same-sent : (s edits : List ℕ) (mode : Bool) (class : MessageClass) (r : Range) → bytesOf (stores s edits) r ≡ bytesOf (stores s []) r
+    → bytesOf (stores s edits) (sentPayload mode class r) ≡ bytesOf (stores s []) (sentPayload mode class r)
+same-sent s edits true class r h = h
+same-sent s edits false Empty r h = refl
+same-sent s edits false (Request q) r h = h
+same-sent s edits false (Response q) r h = h
+same-sent s edits false (Reserved q) r h = h
+
+-- A packet that means one message over two edit stores is written as the same bytes.
+same-bytes : (s edits : List ℕ) (mode : Bool) (p : Packet) → meaning (stores s edits) p ≡ meaning (stores s []) p
+    → bytesWritten mode (stores s edits) p ≡ bytesWritten mode (stores s []) p
+same-bytes s edits mode p e =
+    let payload = same-sent s edits mode (p .header .code) (p .payload) (ap (λ (m : Message). m .payload) e) in
+    λ i.
+    layout
+    (record {
+      version = e i .version;
+      type = e i .type;
+      code = e i .code;
+      id = e i .id;
+      token = e i .token;
+      options = e i .options;
+      payload = payload i;
+    })
+
 module _ (strict : Bool) (s : List ℕ) (b : Bytes s) (p : Packet) (e : reading strict s ≡ given p) where
   read-taken : Taken strict s p
   read-taken = on-given (Taken strict s) (reading strict s) p (taken strict s b) e
@@ -95,16 +130,32 @@ module _ (strict : Bool) (s : List ℕ) (b : Bytes s) (p : Packet) (e : reading 
   pub read-made : Made p
   read-made =
       let k : Kept s p = on-given (Kept s) (reading strict s) p (kept strict s b) e in
-      let g = good (length s) p (k .0) in
+      let g = good (lengthsOf (stores s [])) p (k .0 []) in
       record { version = omega (arith, g .version); class = filled .class; count = g .count; spare = filled .spare; rest = filled .rest }
 
-  -- Its flat form, with whatever stands after it, is taken for that packet.
-  pub read-back : (rest : List ℕ) → packetOver s (flat p ++ rest) ≡ given p
-  unfolding packetOver
-  read-back rest =
-      let k : Kept s p = on-given (Kept s) (reading strict s) p (kept strict s b) e in
-      rw (le-ltb 70000 (length s) (read-taken .fits)) (longer (flat p) rest p (unflat-flat p (k .1) read-made))
+  module _ (edits : List ℕ) (fits : length edits ≤ 70000) where
+    short : tooLong (lengthsOf (stores s edits)) ≡ false
+    unfolding tooLong
+    short = rw (le-ltb 70000 (length s) (read-taken .fits), le-ltb 70000 (length edits) fits)
 
-  -- So the flat form of what was read is written as the datagram is copied.
-  pub write-copies : (mode : Bool) (room : ℕ) (rest : List ℕ) → copying mode room s (packetOver s (flat p ++ rest)) ≡ copying mode room s (reading strict s)
-  write-copies mode room rest = ap (copying mode room s) (read-back rest ∙ sym e)
+    -- Its flat form, with whatever stands after it, is taken for that packet, whatever the edit store holds.
+    pub read-back : (rest : List ℕ) → packetOver (stores s edits) (flat p ++ rest) ≡ given p
+    unfolding packetOver
+    read-back rest =
+        let k : Kept s p = on-given (Kept s) (reading strict s) p (kept strict s b) e in
+        rw short (longer (flat p) rest p (unflat-flat p (k .1) read-made))
+
+    -- Nor does it move what is written of the packet.
+    same-written : (mode : Bool) (room : ℕ) → writing mode Unlimited room (stores s edits) p ≡ writing mode Unlimited room (stores s []) p
+    unfolding writing tooLong
+    same-written mode room =
+        let k : Kept s p = on-given (Kept s) (reading strict s) p (kept strict s b) e in
+        rw (le-ltb 70000 (length s) (read-taken .fits), le-ltb 70000 (length edits) fits, k .0 edits, k .0 [])
+        (ap (λ (l : List ℕ). onward (strictly mode p) (λ _. limited Unlimited (counted mode p) (fitted room l)))
+        (same-bytes s edits mode p (means strict s b p read-taken edits ∙ sym (means strict s b p read-taken []))))
+
+    -- So the flat form of what was read is written as the datagram is copied.
+    pub write-copies : (mode : Bool) (room : ℕ) (rest : List ℕ)
+        → copying mode room (stores s edits) (packetOver (stores s edits) (flat p ++ rest)) ≡ copying mode room (stores s []) (reading strict s)
+    write-copies mode room rest =
+        ap (copying mode room (stores s edits)) (read-back rest) ∙ (same-written mode room ∙ sym (ap (copying mode room (stores s [])) e))

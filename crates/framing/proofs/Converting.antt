@@ -2,7 +2,7 @@
 use Prim.Native.Nat.{ℕ, _+_, _-_, _%_, _<_, _≤_}
 use mathlib.Core.Path.{_≡_, refl, sym, ap, subst, _∙_}
 use mathlib.Core.Bool.{true}
-use mathlib.Core.List.{List, _++_}
+use mathlib.Core.List.{List, [], _++_}
 use native.Mathlib.Omega.{arith}
 use lib.ListN.{length, take, drop, getD, length-drop, length-append}
 use lib.Seq.{take-all, drop-drop}
@@ -23,7 +23,7 @@ use Rattle.header.specs.Header.{rawBytes, versionOf, tokenOf}
 use Rattle.header.specs.declared.MessageType.{MessageType}
 use Rattle.header.proofs.Raw.{type-small}
 use Rattle.packet.specs.Meaning.{meaning}
-use Rattle.packet.specs.Packet.{newPacket}
+use Rattle.packet.specs.Packet.{stores, newPacket}
 use Rattle.packet.specs.declared.Packet.{Packet}
 use Rattle.reading.specs.Reading.{FromBytes, reading}
 use Rattle.reading.specs.declared.Decoded.{Decoded}
@@ -55,7 +55,7 @@ refused-so (refused j) f k e = ap refused (same-refused e)
 
 pub framed-refused : (s : List ℕ) (k : ℕ) → accepted s ≡ refused k → framed s ≡ refused k
 unfolding accepted framed
-framed-refused s k e = refused-so (reading true s) (λ p. frame (meaning s p)) k e
+framed-refused s k e = refused-so (reading true s) (λ p. frame (meaning (stores s []) p)) k e
 
 -- The frame of a well-formed message, by the bytes of its layout.
 module _ (m : Message) (w : WellFormed m) where
@@ -82,19 +82,19 @@ module _ (s : List ℕ) (b : Bytes s) (e : accepted s ≡ given tt) where
   unfolding accepted
   read = let r = onward-given (reading true s) _ tt e in (r .0, r .1)
 
-  laid : WellFormed (meaning s (read .0)) × (layout (meaning s (read .0)) ≡ s)
-  laid = on-given (λ (p : Packet). WellFormed (meaning s p) × (layout (meaning s p) ≡ s)) (reading true s) (read .0) (Accept.accepted s b) (read .1)
+  laid : WellFormed (meaning (stores s []) (read .0)) × (layout (meaning (stores s []) (read .0)) ≡ s)
+  laid = on-given _ (reading true s) (read .0) (Accept.accepted s b) (read .1) []
 
   short : length s ≤ 70000
   unfolding reading
   short = by-lt 70000 (length s) (λ h. let long : reading true s ≡ refused 10 = rw (lt-ltb 70000 (length s) h) in not-refused (sym (read .1) ∙ long)) (λ h. h)
 
   pub accepted-whole : Whole s
-  accepted-whole = record { token = subst (λ (l : List ℕ). 4 + getD l 0 0 % 16 ≤ length l) (laid .1) (token-fits (meaning s (read .0)) (laid .0)); short = short }
+  accepted-whole = record { token = subst (λ (l : List ℕ). 4 + getD l 0 0 % 16 ≤ length l) (laid .1) (token-fits (meaning (stores s []) (read .0)) (laid .0)); short = short }
 
   pub framed-is : framed s ≡ given (frameOf s)
   unfolding framed
-  framed-is = rw (read .1) (ap given (frame-is (meaning s (read .0)) (laid .0) ∙ ap frameOf (laid .1)))
+  framed-is = rw (read .1) (ap given (frame-is (meaning (stores s []) (read .0)) (laid .0) ∙ ap frameOf (laid .1)))
 
 -- What is left of a slice from a position.
 pub all-left : (s : List ℕ) (at : ℕ) → take (length s - at) (drop at s) ≡ drop at s

@@ -22,7 +22,7 @@ valueOn k v = given (record { value = v .value; next = k + v .next })
 
 abbrev placeOn : ℕ → Place → Answer Place
 placeOn k (ended marked payload) = given (ended marked (k + payload))
-placeOn k (option r) = given (option (record { number = r .number; spare = r .spare; start = k + r .start; len = r .len }))
+placeOn k (option r) = given (option (record { number = r .number; home = r .home; spare = r .spare; start = k + r .start; len = r .len }))
 
 onward-pick : {A B : Type 0} (t : Bool) (x y : Answer A) (next : A → Answer B) → onward (pick t x y) next ≡ pick t (onward x next) (onward y next)
 onward-pick true x y next = refl

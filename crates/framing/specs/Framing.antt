@@ -11,6 +11,7 @@ use Rattle.header.specs.Header.{numberOfType, rawBytes}
 use Rattle.header.specs.declared.HeaderRaw.{HeaderRaw}
 use Rattle.header.specs.declared.MessageType.{MessageType}
 use Rattle.packet.specs.Limits.{maxStore}
+use Rattle.packet.specs.Packet.{stores}
 use Rattle.packet.specs.Meaning.{meaning}
 use Rattle.reading.specs.Reading.{reading}
 use Rattle.framing.specs.Head.{headIn}
@@ -18,7 +19,7 @@ use Rattle.framing.specs.declared.Head.{Head}
 
 -- The frame of a datagram: that of the message which strict reading gives, or the reader's refusal.
 unfoldable pub framed : List ℕ → Answer (List ℕ)
-framed s = onward (reading true s) (λ p. given (frame (meaning s p)))
+framed s = onward (reading true s) (λ p. given (frame (meaning (stores s []) p)))
 
 -- A datagram that strict reading accepts, or the reader's refusal.
 unfoldable pub strictly : List ℕ → Answer (List ℕ)

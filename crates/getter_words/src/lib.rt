@@ -5,6 +5,7 @@ use lines::put_number;
 use output::spilled;
 use packet::Packet;
 use packet_words::Reply;
+use packet_words::put_parts;
 use packet_words::put_separator;
 use placing::put_byte;
 use placing::put_bytes;
@@ -17,19 +18,30 @@ use words::number_at;
 use words::separator;
 
 // Puts a packet, and what the getters answer of it. The numbers asked for stand in the line, at NOWHERE for none.
-pub fn put_getters(
+pub fn put_getters<'a>(
     out: &mut [u8],
     place: usize,
     line: &[u8],
     asked: usize,
     packet: Packet,
-    store: &[u8],
+    datagram: &'a [u8],
+    edits: &'a [u8],
 ) -> usize {
-    let next = Reply::showing(packet).put(out, place, store, store);
-    let next = put_format(out, next, typed_options::get_content_format(packet, store));
-    let next = put_observe(out, next, typed_options::get_observe_value(packet, store));
+    let head = Reply::showing(packet).told;
+    let next = head.put(out, place, datagram, datagram);
+    let next = put_parts(out, next, packet, datagram, edits);
+    let next = put_format(
+        out,
+        next,
+        typed_options::get_content_format(packet, datagram, edits),
+    );
+    let next = put_observe(
+        out,
+        next,
+        typed_options::get_observe_value(packet, datagram, edits),
+    );
     let next = put_bytes(out, next, b" asked ");
-    put_asked(out, next, line, asked, packet, store)
+    put_asked(out, next, line, asked, packet, datagram, edits)
 }
 
 fn put_format(out: &mut [u8], place: usize, format: ContentFormat) -> usize {
@@ -60,13 +72,14 @@ fn put_observe(out: &mut [u8], place: usize, observe: Observe) -> usize {
 
 // Puts what is asked of each number in a list. A list can ask for one long value again and again, so the output is
 // spilled on the way.
-fn put_asked(
+fn put_asked<'a>(
     out: &mut [u8],
     place: usize,
     line: &[u8],
     at: usize,
     packet: Packet,
-    store: &[u8],
+    datagram: &'a [u8],
+    edits: &'a [u8],
 ) -> usize {
     if at == NOWHERE {
         return put_byte(out, place, b'-');
@@ -80,19 +93,26 @@ fn put_asked(
             return place;
         }
         place = put_separator(out, spilled(out, place), i);
-        place = put_one_asked(out, place, low16(number.value), packet, store);
+        place = put_one_asked(out, place, low16(number.value), packet, datagram, edits);
         next = number.next;
         i = i + 1;
     }
     place
 }
 
-fn put_one_asked(out: &mut [u8], place: usize, number: u16, packet: Packet, store: &[u8]) -> usize {
+fn put_one_asked<'a>(
+    out: &mut [u8],
+    place: usize,
+    number: u16,
+    packet: Packet,
+    datagram: &'a [u8],
+    edits: &'a [u8],
+) -> usize {
     let next = put_decimal(out, place, number as u64);
     let next = put_present(out, next, packet.has_option(number));
     let next = put_decimal(out, next, packet.count_of(number) as u64);
     let next = put_byte(out, next, b':');
-    put_hex(out, next, packet.get_first_option(store, number))
+    put_hex(out, next, packet.get_first_option(datagram, edits, number))
 }
 
 fn put_present(out: &mut [u8], place: usize, present: bool) -> usize {

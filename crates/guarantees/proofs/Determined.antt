@@ -16,6 +16,7 @@ use Rattle.typed_options.proofs.Distinct.{one-observe}
 use Rattle.register.proofs.Order.{one-checked}
 use Rattle.unflat.specs.Unflat.{taken}
 use Rattle.refusal.specs.Answer.{Beside}
+use Rattle.refusal.proofs.Answers.{same-given}
 use Rattle.packet.specs.declared.Packet.{Packet}
 use Rattle.reading.specs.Reading.{decoded}
 use Rattle.guarantees.specs.Determined.{TellsApart, OneAnswer, Told, OneVerdict, OnePlan, OneConversion}

@@ -2,7 +2,7 @@
 use Prim.Native.Nat.{ℕ, _≤_}
 use mathlib.Core.Path.{_≡_, refl, sym, ap, _∙_}
 use mathlib.Core.Bool.{true}
-use mathlib.Core.List.{List}
+use mathlib.Core.List.{List, []}
 use native.Mathlib.Omega.{arith}
 use lib.ListN.{length, take}
 use borrow.Author.Tests.{le-ltb}
@@ -19,6 +19,7 @@ use Rattle.refusal.proofs.Fitted.{fitted-output}
 use Rattle.header.specs.Header.{numberOfType}
 use Rattle.header.specs.declared.MessageType.{MessageType}
 use Rattle.header.proofs.Raw.{type-small}
+use Rattle.packet.specs.Packet.{stores}
 use Rattle.packet.specs.Meaning.{meaning}
 use Rattle.packet.specs.declared.Packet.{Packet}
 use Rattle.reading.specs.Reading.{reading}
@@ -35,7 +36,7 @@ use Rattle.guarantees.proofs.RoundTrips.{front}
 
 -- What a conversion wrote, and that it wrote something.
 module _ (a : Answer (List ℕ)) (old : List ℕ) (r : Written) (new : List ℕ) (promise : Converts a old r new) where
-  wrote : (bytes : List ℕ) → a ≡ given bytes → length bytes ≤ length old → Wrote bytes old r new
+  pub wrote : (bytes : List ℕ) → a ≡ given bytes → length bytes ≤ length old → Wrote bytes old r new
   wrote bytes is fits =
       let fit : fitted (length old) bytes ≡ given (length bytes) = rw (le-ltb (length old) (length bytes) fits) in
       let all : onward a (fitted (length old)) ≡ given (length bytes) = ap (λ (x : Answer (List ℕ)). onward x (fitted (length old))) is ∙ fit in
@@ -44,21 +45,21 @@ module _ (a : Answer (List ℕ)) (old : List ℕ) (r : Written) (new : List ℕ)
         output = promise .output ∙ (ap (λ (x : Answer (List ℕ)). after (onward x (fitted (length old))) 0 (bytesOf x) old) is ∙ fitted-output old bytes (length bytes) fit);
       }
 
-  record Converted (n : ℕ) : Type 0 where
-    bytes : List ℕ
-    is : a ≡ given bytes
-    fits : length bytes ≤ length old
+  pub record Converted (n : ℕ) : Type 0 where
+    pub bytes : List ℕ
+    pub is : a ≡ given bytes
+    pub fits : length bytes ≤ length old
 
   fits-in : (bytes : List ℕ) (n : ℕ) → fitted (length old) bytes ≡ given n → length bytes ≤ length old
   fits-in bytes n = on-lt (λ (x : Answer ℕ). x ≡ given n → length bytes ≤ length old) (length old) (length bytes) (λ h e. not-refused (sym e)) (λ h e. h)
 
-  converted : (n : ℕ) → r ≡ Length n → Converted n
+  pub converted : (n : ℕ) → r ≡ Length n → Converted n
   converted n e =
       let o = onward-given a (fitted (length old)) n (sym (promise .answer) ∙ ap written e) in
       record { bytes = o .0; is = o .1; fits = fits-in (o .0) n (o .2) }
 
   -- What stands in the output.
-  stood : (n : ℕ) → r ≡ Length n → (bytes : List ℕ) → a ≡ given bytes → length bytes ≤ length old → take n new ≡ bytes
+  pub stood : (n : ℕ) → r ≡ Length n → (bytes : List ℕ) → a ≡ given bytes → length bytes ≤ length old → take n new ≡ bytes
   stood n e bytes is fits =
       let w = wrote bytes is fits in
       let same : n ≡ length bytes = length-is (sym e ∙ w .answer) in
@@ -71,7 +72,7 @@ module _ (a : Answer (List ℕ)) (old : List ℕ) (r : Written) (new : List ℕ)
 module _ (m : Message) (w : WellFormed m) (short : length (layout m) ≤ 70000) where
   framed-layout : framed (layout m) ≡ given (frame m)
   unfolding framed
-  framed-layout = let r = reads-layout m w short in rw (r .is) (ap (λ (x : Message). given (frame x)) (r .means))
+  framed-layout = let r = reads-layout m w short in rw (r .is) (ap (λ (x : Message). given (frame x)) (r .means []))
 
   strictly-layout : strictly (layout m) ≡ given (layout m)
   unfolding strictly
@@ -79,12 +80,12 @@ module _ (m : Message) (w : WellFormed m) (short : length (layout m) ≤ 70000) 
 
 -- A datagram that strict reading accepts is short, and the layout of a message.
 record Holds (s : List ℕ) (p : Packet) : Type 0 where
-  message : IsLayoutOf s (meaning s p)
+  message : IsLayoutOf s (meaning (stores s []) p)
   short : length s ≤ 70000
 
 holds : (s : List ℕ) → Bytes s → (p : Packet) → reading true s ≡ given p → Holds s p
 holds s b p e =
-    let a = on-given (λ (q : Packet). WellFormed (meaning s q) × (layout (meaning s q) ≡ s)) (reading true s) p (accepted s b) e in
+    let a = on-given (λ (q : Packet). (edits : List ℕ) → WellFormed (meaning (stores s edits) q) × (layout (meaning (stores s edits) q) ≡ s)) (reading true s) p (accepted s b) e [] in
     record { message = record { well-formed = a .0; bytes = a .1 }; short = on-given (Taken true s) (reading true s) p (taken true s b) e .fits }
 
 record FramedFrom (s f : List ℕ) : Type 0 where
@@ -96,9 +97,9 @@ record FramedFrom (s f : List ℕ) : Type 0 where
 framed-from : (s : List ℕ) → Bytes s → (f : List ℕ) → framed s ≡ given f → FramedFrom s f
 unfolding framed
 framed-from s b f e =
-    let o = onward-given (reading true s) (λ p. given (frame (meaning s p))) f e in
+    let o = onward-given (reading true s) (λ p. given (frame (meaning (stores s []) p))) f e in
     let h = holds s b (o .0) (o .1) in
-    record { message = meaning s (o .0); is = h .message; short = h .short; frame-is = same-given (o .2) }
+    record { message = meaning (stores s []) (o .0); is = h .message; short = h .short; frame-is = same-given (o .2) }
 
 of-layout : (s : List ℕ) (m : Message) → IsLayoutOf s m → length s ≤ 70000 → framed s ≡ given (frame m)
 of-layout s m l short = ap framed (sym (l .bytes)) ∙ framed-layout m (l .well-formed) (omega (arith, ap length (l .bytes)))
@@ -159,7 +160,7 @@ module _ (kind : MessageType) (id : ℕ) (small : id ≤ 65535) (f : List ℕ) (
   unframed-from d e =
       let c = came-back kind id small f b d e in
       let k = holds d (c .bytes) (c .packet) (c .read) in
-      let m = meaning d (c .packet) in
+      let m = meaning (stores d []) (c .packet) in
       record {
         message = m;
         is = record {
@@ -194,7 +195,7 @@ one-layout m n v w short e =
     let a = reads-layout m v short in
     let b = reads-layout n w (omega (arith, ap length e)) in
     let same : a .packet ≡ b .packet = same-given (sym (a .is) ∙ (ap (reading true) e ∙ b .is)) in
-    sym (a .means) ∙ ((λ i. meaning (e i) (same i)) ∙ b .means)
+    sym (a .means []) ∙ ((λ i. meaning (stores (e i) []) (same i)) ∙ b .means [])
 
 pub one-message : OneMessage
 one-message f m n l k kind id =

@@ -7,12 +7,14 @@ pub mod StrictWriting
 pub mod RoundTrips
 pub mod Modes
 pub mod Edits
+pub mod Homes
 pub mod Register
 pub mod Padded
 pub mod Blocks
 pub mod Texts
 pub mod Frames
 mod FrameSamples
+mod StreamSamples
 pub mod Plans
 pub mod Samples
 pub mod LongSamples

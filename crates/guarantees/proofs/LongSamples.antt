@@ -14,7 +14,9 @@ use Rattle.rfc.specs.Message.{Message, WellFormed, layout, headerLayout, option
 use Rattle.rfc.proofs.Message.{nibble-two, extension-two}
 use Rattle.refusal.specs.Answer.{Answer, given, refused}
 use Rattle.refusal.proofs.Answers.{on-given}
+use Rattle.packet.specs.Packet.{stores}
 use Rattle.packet.specs.Meaning.{meaning}
+use Rattle.packet.specs.declared.Packet.{Packet}
 use Rattle.reading.specs.Reading.{reading}
 use Rattle.reading.proofs.Complete.{reads-layout}
 use Rattle.reading.proofs.Modes.{readAgain, Seen, seen}
@@ -64,8 +66,8 @@ module _ (v : List ℕ) (b : Bytes v) where
       let bytes : Bytes s = (omega arith, (omega arith, (omega arith, (omega arith, (omega arith, (omega arith, (omega arith, b))))))) in
       let r = reads-layout (holding v) (formed short) (omega (arith, ap length same)) in
       let is : reading true s ≡ given (r .packet) = ap (reading true) (sym same) ∙ r .is in
-      let means : meaning s (r .packet) ≡ holding v = ap (λ (t : List ℕ). meaning t (r .packet)) (sym same) ∙ r .means in
-      let k : Seen s (r .packet) = on-given (Seen s) (reading true s) (r .packet) (seen true s bytes) is in
+      let means : meaning (stores s []) (r .packet) ≡ holding v = ap (λ (t : List ℕ). meaning (stores t []) (r .packet)) (sym same) ∙ r .means [] in
+      let k : Seen s [] (r .packet) = on-given (λ (p : Packet). (edits : List ℕ) → Seen s edits p) (reading true s) (r .packet) (seen true s bytes) is [] in
       let plain : reading false s ≡ readAgain false s (holding v) (r .packet) = k .answers false ∙ ap (λ (m : Message). readAgain false s m (r .packet)) means in (
         rw plain
             (by-lt 65535 (length v) (λ h. rw (lt-leb (length v) 65535 h) refl) (λ h. rw (le-leb (length v) 65535 h) (ap given means))),

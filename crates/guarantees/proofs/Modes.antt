@@ -22,7 +22,7 @@ use Rattle.refusal.proofs.Answers.{on-given, not-refused, same-given, same-refu
 use Rattle.header.specs.Header.{rawIn}
 use Rattle.packet.specs.Limits.{maxPlainValue}
 use Rattle.packet.specs.Meaning.{meaning}
-use Rattle.packet.specs.Packet.{newPacket}
+use Rattle.packet.specs.Packet.{stores, newPacket}
 use Rattle.packet.specs.declared.Packet.{Packet}
 use Rattle.reading.specs.Reading.{FromBytes, decoded, afterHeader, reading}
 use Rattle.reading.specs.declared.Decoded.{Decoded}
@@ -77,68 +77,68 @@ one-of true p q k e = same-given e
 one-of false p q k e = not-refused e
 
 -- A reader that accepts, in either mode; and what a reader answers then, in either mode.
-module _ (s : List ℕ) (b : Bytes s) (mode : Bool) (d : Decoded) (promise : FromBytes mode s d) (h : Accepts d) where
-  read : Seen s (d .packet)
-  read = on-given (Seen s) (reading mode s) (d .packet) (seen mode s b) (done d (reading mode s) promise h)
+module _ (s edits : List ℕ) (b : Bytes s) (mode : Bool) (d : Decoded) (promise : FromBytes mode s d) (h : Accepts d) where
+  read : Seen s edits (d .packet)
+  read = on-given (λ (p : Packet). (beside : List ℕ) → Seen s beside p) (reading mode s) (d .packet) (seen mode s b) (done d (reading mode s) promise h) edits
 
   module _ (strict : Bool) (e : Decoded) (other : FromBytes strict s e) where
-    answers : decoded e ≡ beside newPacket (readAgain strict s (said s d) (d .packet))
+    answers : decoded e ≡ beside newPacket (readAgain strict s (said s edits d) (d .packet))
     answers = other ∙ ap (beside newPacket) (read .answers strict)
 
-    refuses : (numbers : List ℕ) → RefusedAs numbers (readAgain strict s (said s d) (d .packet)) → RefusesWith numbers e
-    refuses numbers = refuses-with numbers e (readAgain strict s (said s d) (d .packet)) answers
+    refuses : (numbers : List ℕ) → RefusedAs numbers (readAgain strict s (said s edits d) (d .packet)) → RefusesWith numbers e
+    refuses numbers = refuses-with numbers e (readAgain strict s (said s edits d) (d .packet)) answers
 
-module _ (s : List ℕ) (b : Bytes s) (plain strict : Decoded) (p : FromBytes false s plain) (q : FromBytes true s strict) where
+module _ (s edits : List ℕ) (b : Bytes s) (plain strict : Decoded) (p : FromBytes false s plain) (q : FromBytes true s strict) where
   -- A datagram that is longer than the layout has the bare marker.
-  longer-bare : Accepts plain → length (layout (said s plain)) < length s → BareMarker s (said s plain)
-  longer-bare h longer = ⊎-elim (λ same. absurd (omega (arith, ap length same))) (λ e. e) (read s b false plain p h .ends)
+  longer-bare : Accepts plain → length (layout (said s edits plain)) < length s → BareMarker s (said s edits plain)
+  longer-bare h longer = ⊎-elim (λ same. absurd (omega (arith, ap length same))) (λ e. e) (read s edits b false plain p h .ends)
 
-  cause : Accepts plain → Refuses strict → Cause s (said s plain)
+  cause : Accepts plain → Refuses strict → Cause s (said s edits plain)
   cause h r =
-      let m = said s plain in
+      let m = said s edits plain in
       let P : Answer Packet → Type 0 = λ a. decoded strict ≡ beside newPacket a → Cause s m in
       let carried = both (eqb (m .code) 0) (ltb 4 (length s)) in
       on P (not (eqb (m .version) 1)) (λ e _. inl (eqb-false (m .version) 1 (not-true (eqb (m .version) 1) e)))
       (λ _. on P carried
       (λ e _. let c = both-true (eqb (m .code) 0) (ltb 4 (length s)) e in inr (inl (eqb-true (m .code) 0 (c .0), ltb-true 4 (length s) (c .1))))
-      (λ _. rw (read s b false plain p h .fine) (on-lt P (length (layout m)) (length s) (λ longer _. inr (inr (longer-bare h longer)))
+      (λ _. rw (read s edits b false plain p h .fine) (on-lt P (length (layout m)) (length s) (λ longer _. inr (inr (longer-bare h longer)))
       (λ _ e. absurd (never strict (gives strict (plain .packet) e .0) (r .0) (r .1))))))
-      (answers s b false plain p h true strict q)
+      (answers s edits b false plain p h true strict q)
 
-  too-long : Accepts strict → Refuses plain → HasLong (said s strict)
+  too-long : Accepts strict → Refuses plain → HasLong (said s edits strict)
   too-long h r =
-      let os = said s strict .options in
+      let os = said s edits strict .options in
       on (λ (a : Answer Packet). decoded plain ≡ beside newPacket a → (o : Opt) × Among o os × Long o) (valuesWithin maxPlainValue os)
-      (λ _ e. absurd (never plain (gives plain (strict .packet) e .0) (r .0) (r .1))) (λ e _. some-long os e) (answers s b true strict q h false plain p)
+      (λ _ e. absurd (never plain (gives plain (strict .packet) e .0) (r .0) (r .1))) (λ e _. some-long os e) (answers s edits b true strict q h false plain p)
 
   -- Both modes read one packet.
   one-packet : Accepts plain → Accepts strict → plain .packet ≡ strict .packet
   one-packet h k =
-      one-of (valuesWithin maxPlainValue (said s strict .options)) (plain .packet) (strict .packet) 4
-      (sym (done plain (reading false s) p h) ∙ read s b true strict q k .answers false)
+      one-of (valuesWithin maxPlainValue (said s edits strict .options)) (plain .packet) (strict .packet) 4
+      (sym (done plain (reading false s) p h) ∙ read s edits b true strict q k .answers false)
 
-  modes : Modes s plain strict
+  modes : Modes s edits plain strict
   modes =
       record {
-        both = λ h k. ap (meaning s) (one-packet h k);
+        both = λ h k. ap (meaning (stores s edits)) (one-packet h k);
         strict-alone = too-long;
-        long-value = λ h o among long. refuses s b true strict q h false plain p (4 ∷ []) (rw (long-found (said s strict .options) o among long) tt);
+        long-value = λ h o among long. refuses s edits b true strict q h false plain p (4 ∷ []) (rw (long-found (said s edits strict .options) o among long) tt);
         plain-alone = cause;
-        other-version = λ h v. refuses s b false plain p h true strict q (7 ∷ []) (rw (ne-eqb (said s plain .version) 1 v) tt);
+        other-version = λ h v. refuses s edits b false plain p h true strict q (7 ∷ []) (rw (ne-eqb (said s edits plain .version) 1 v) tt);
         carries = λ h c.
-            refuses s b false plain p h true strict q (7 ∷ 8 ∷ [])
-            (on (RefusedAs (7 ∷ 8 ∷ [])) (not (eqb (said s plain .version) 1)) (λ _. tt)
-            (λ _. rw (eq-eqb (said s plain .code) 0 (c .0), lt-ltb 4 (length s) (c .1)) tt));
+            refuses s edits b false plain p h true strict q (7 ∷ 8 ∷ [])
+            (on (RefusedAs (7 ∷ 8 ∷ [])) (not (eqb (said s edits plain .version) 1)) (λ _. tt)
+            (λ _. rw (eq-eqb (said s edits plain .code) 0 (c .0), lt-ltb 4 (length s) (c .1)) tt));
         bare-marker = λ h e.
-            let m = said s plain in
+            let m = said s edits plain in
             let longer : length (layout m) < length s = omega (arith, ap length e ∙ length-append (layout m) (255 ∷ [])) in
-            refuses s b false plain p h true strict q (7 ∷ 8 ∷ 9 ∷ [])
+            refuses s edits b false plain p h true strict q (7 ∷ 8 ∷ 9 ∷ [])
             (on (RefusedAs (7 ∷ 8 ∷ 9 ∷ [])) (not (eqb (m .version) 1)) (λ _. tt)
             (λ _. on (RefusedAs (7 ∷ 8 ∷ 9 ∷ [])) (both (eqb (m .code) 0) (ltb 4 (length s))) (λ _. tt)
-            (λ _. rw (read s b false plain p h .fine, lt-ltb (length (layout m)) (length s) longer) tt)));
+            (λ _. rw (read s edits b false plain p h .fine, lt-ltb (length (layout m)) (length s) longer) tt)));
       }
 
-  exactly : Exactly s plain strict
+  exactly : Exactly s edits plain strict
   exactly =
       record {
         strict-too = λ h. (
@@ -151,11 +151,11 @@ module _ (s : List ℕ) (b : Bytes s) (plain strict : Decoded) (p : FromBytes fa
           λ k l. let r = modes .long-value h (l .0) (l .1) (l .2) in never plain k (r .0) (r .1),
           λ none. ⊎-elim (λ k. k) (λ r. absurd (none (modes .strict-alone h r))) (one-way (plain .outcome)),
         );
-        ends = λ h. read s b false plain p h .ends;
+        ends = λ h. read s edits b false plain p h .ends;
       }
 
 pub two-modes : TwoModes
-two-modes s b plain strict p q = (modes s b plain strict p q, exactly s b plain strict p q)
+two-modes s edits b plain strict p q = (modes s edits b plain strict p q, exactly s edits b plain strict p q)
 
 pub refused-apart : RefusedApart
 unfolding reading rawIn afterHeader

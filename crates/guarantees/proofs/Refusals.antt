@@ -1,16 +1,25 @@
 -- What a refused call leaves, from the shapes of the promises.
+use Prim.Native.Nat.{ℕ}
 use mathlib.Core.Path.{_≡_, refl, sym, ap, _∙_}
+use mathlib.Core.Bool.{true}
+use mathlib.Core.List.{List}
 use mathlib.Core.Logic.{inl, inr}
 use lib.ListN.{length}
-use Rattle.refusal.specs.Answer.{Answer, given, refused, outcome, written, Beside, beside, onward, fitted}
+use Rattle.refusal.specs.Answer.{Answer, given, refused, outcome, written, Beside, beside, onward, fitted, after}
 use Rattle.refusal.specs.Number.{numberOf}
+use Rattle.refusal.specs.declared.Refusal.{Refusal}
+use Rattle.refusal.specs.declared.Written.{Written}
+use Rattle.refusal.specs.declared.Written.the-variants.{Refused}
 use Rattle.refusal.specs.declared.Outcome.{Outcome}
 use Rattle.refusal.specs.declared.Outcome.the-variants.{Done, Refused as Not}
 use Rattle.refusal.proofs.Answers.{not-refused, was-refused, old-beside}
 use Rattle.refusal.proofs.Distinct.{number-listed, numbers-are}
 use Rattle.packet.specs.Packet.{newPacket}
+use Rattle.packet.specs.declared.Packet.{Packet}
+use Rattle.judging.specs.Judge.{lengthsOf}
 use Rattle.reading.specs.Reading.{reading}
 use Rattle.register.proofs.Order.{none-kept}
+use Rattle.writing.specs.Writing.{bytesWritten}
 use Rattle.guarantees.specs.Refusals.{Numbered, OutputKept, DoneOr, NoPacketRead, PacketKept, StoreKept, HeaderKept, NothingKept, ListKept, FrameOutputKept}
 use Rattle.planning.specs.Planner.{values, planning}
 use Rattle.framing.specs.Framing.{bytesOf}

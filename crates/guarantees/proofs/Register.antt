@@ -14,36 +14,36 @@ use Rattle.register.proofs.Severe.{spared-all, listed-at, refused-before}
 use Rattle.guarantees.specs.Register.{ChecksRegister, PassesMore, RefusesLater}
 
 pub checks-register : ChecksRegister
-checks-register store p c promise =
+checks-register lengths p c promise =
     let rs = recordsOf p in
     let answer = firstRejected 0 (fates [] rs) in
-    let passed : c .outcome ≡ Passes → _ = λ e. past-order store p answer passes tt (sym (says store p c promise) ∙ ap told e) in
+    let passed : c .outcome ≡ Passes → _ = λ e. past-order lengths p answer passes tt (sym (says lengths p c promise) ∙ ap told e) in
     let at-place : c .outcome ≡ Passes → (i : ℕ) → getD (c .kept) i false ≡ getD (marks (fates [] rs)) i false =
-    λ e i. ap (λ (l : List Bool). getD l i false) (marked store p c promise e) in
+    λ e i. ap (λ (l : List Bool). getD l i false) (marked lengths p c promise e) in
     record {
       passing = (
         λ e. let h = passed e in (h .0, passes-then rs (h .1)),
-        λ h. outcome-is store p c promise Passes (in-order store p answer (h .0) ∙ passes-when rs (h .1)),
+        λ h. outcome-is lengths p c promise Passes (in-order lengths p answer (h .0) ∙ passes-when rs (h .1)),
       );
       named = λ i. (
-        λ e. let h = past-order store p answer (refusedAt 16 i) tt (sym (says store p c promise) ∙ ap told e) in (h .0, named-then rs 16 i (h .1)),
-        λ h. outcome-is store p c promise (BadOption i) (in-order store p answer (h .0) ∙ named-when rs i (h .1)),
+        λ e. let h = past-order lengths p answer (refusedAt 16 i) tt (sym (says lengths p c promise) ∙ ap told e) in (h .0, named-then rs 16 i (h .1)),
+        λ h. outcome-is lengths p c promise (BadOption i) (in-order lengths p answer (h .0) ∙ named-when rs i (h .1)),
       );
       kept = λ e i h. at-place e i ∙ marked-at rs i h;
       past = λ e i h. at-place e i ∙ unmarked-past rs i h;
     }
 
 pub passes-more : PassesMore
-passes-more store p c promise e =
+passes-more lengths p c promise e =
     let rs = recordsOf p in
-    let h = past-order store p (firstBreak [] rs) passes tt e in
+    let h = past-order lengths p (firstBreak [] rs) passes tt e in
     let s = spared-all rs (h .1) in
-    let passed = outcome-is store p c promise Passes (in-order store p (firstRejected 0 (fates [] rs)) (h .0) ∙ s .pass) in
-    (passed, λ i l. ap (λ (m : List Bool). getD m i false) (marked store p c promise passed) ∙ listed-at rs s i l)
+    let passed = outcome-is lengths p c promise Passes (in-order lengths p (firstRejected 0 (fates [] rs)) (h .0) ∙ s .pass) in
+    (passed, λ i l. ap (λ (m : List Bool). getD m i false) (marked lengths p c promise passed) ∙ listed-at rs s i l)
 
 pub refuses-later : RefusesLater
-refuses-later store p c promise i e =
+refuses-later lengths p c promise i e =
     let rs = recordsOf p in
-    let h = past-order store p (firstRejected 0 (fates [] rs)) (refusedAt 16 i) tt (sym (says store p c promise) ∙ ap told e) in
+    let h = past-order lengths p (firstRejected 0 (fates [] rs)) (refusedAt 16 i) tt (sym (says lengths p c promise) ∙ ap told e) in
     let j = refused-before rs 16 i (h .1) in
-    (j .0, j .1, in-order store p (firstBreak [] rs) (h .0) ∙ j .2)
+    (j .0, j .1, in-order lengths p (firstBreak [] rs) (h .0) ∙ j .2)

@@ -6,10 +6,14 @@ use mathlib.Core.List.{List, _++_}
 use native.Mathlib.Omega.{arith}
 use lib.ListN.{length, take, drop}
 use lib.Seq.{take-append-seam}
+use borrow.Author.Tests.{le-ltb}
 use Rattle.rfc.specs.Message.{WellFormed, layout}
 use Rattle.refusal.specs.Answer.{given}
 use Rattle.refusal.specs.declared.Written.the-variants.{Length}
+use Rattle.packet.specs.Packet.{stores}
 use Rattle.packet.specs.Meaning.{meaning}
+use Rattle.judging.specs.Judge.{tooLong}
+use Rattle.packet.specs.Limits.{maxStore}
 use Rattle.packet.specs.declared.Packet.{Packet}
 use Rattle.reading.specs.Reading.{reading}
 use Rattle.refusal.proofs.Answers.{on-given}
@@ -17,6 +21,7 @@ use Rattle.reading.proofs.Taken.{Taken, taken}
 use Rattle.reading.proofs.Accept.{accepted}
 use Rattle.reading.proofs.Kept.{Kept, kept}
 use Rattle.writing.specs.Writing.{writing}
+use Rattle.guarantees.specs.StrictWriting.{Sound}
 use Rattle.guarantees.specs.RoundTrips.{WrittenThenRead, ReadThenWritten}
 use Rattle.guarantees.proofs.StrictReading.{done, found}
 use Rattle.guarantees.proofs.StrictWriting.{strict-writing}
@@ -38,10 +43,13 @@ written-then-read limit p s old r new n d shaped b promise is short read =
     length-is e = cc
 
 pub read-then-written : ReadThenWritten
-read-then-written s d limit old r new b read is enough promise =
+unfolding tooLong
+read-then-written s edits d limit old r new b read is enough held short promise =
     let gives : reading true s ≡ given (d .packet) = done d (reading true s) read is in
-    let a = on-given (λ (p : Packet). WellFormed (meaning s p) × (layout (meaning s p) ≡ s)) (reading true s) (d .packet) (accepted s b) gives in
+    let a = on-given (λ (p : Packet). (beside : List ℕ) → WellFormed (meaning (stores s beside) p) × (layout (meaning (stores s beside) p) ≡ s)) (reading true s) (d .packet) (accepted s b) gives edits in
     let k = on-given (Kept s) (reading true s) (d .packet) (kept true s b) gives in
-    let w = strict-writing limit (d .packet) (k .1) s b old r new promise in
-    let wrote = w .writes (meaning s (d .packet)) (a .0) refl (record { store = on-given (Taken true s) (reading true s) (d .packet) (taken true s b) gives .fits; records = k .0 }) (rw (a .1) enough) in
+    let fits = on-given (Taken true s) (reading true s) (d .packet) (taken true s b) gives .fits in
+    let w = strict-writing limit (d .packet) (k .1) (stores s edits) (record { datagram = b; edits = held }) old r new promise in
+    let sound : Sound (stores s edits) (d .packet) = record { short = rw (le-ltb maxStore (length s) fits) (le-ltb maxStore (length edits) short); records = k .0 edits } in
+    let wrote = w .writes (meaning (stores s edits) (d .packet)) (a .0) refl sound (rw (a .1) enough) in
     rw (a .1) at wrote

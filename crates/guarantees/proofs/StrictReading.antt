@@ -2,7 +2,7 @@
 use Prim.Native.Nat.{ℕ, _≤_}
 use mathlib.Core.Path.{_≡_, sym, ap, _∙_}
 use mathlib.Core.Bool.{true}
-use mathlib.Core.List.{List}
+use mathlib.Core.List.{List, []}
 use native.Mathlib.Omega.{arith}
 use lib.ListN.{length}
 use Rattle.rfc.specs.Message.{Message, WellFormed, layout}
@@ -12,7 +12,7 @@ use Rattle.refusal.specs.declared.Outcome.the-variants.{Done}
 use Rattle.refusal.proofs.Distinct.{one-outcome}
 use Rattle.packet.specs.Meaning.{meaning}
 use Rattle.packet.specs.declared.Packet.{Packet}
-use Rattle.packet.specs.Packet.{newPacket}
+use Rattle.packet.specs.Packet.{stores, newPacket}
 use Rattle.reading.specs.Reading.{FromBytes, decoded, reading}
 use Rattle.reading.specs.declared.Decoded.{Decoded}
 use Rattle.refusal.proofs.Answers.{on-given}
@@ -31,23 +31,23 @@ gives d p e = (one-outcome (d .outcome) Done (ap (λ (r : Beside Packet). r .ans
 
 -- A message with this layout is what the answer means.
 pub found : (s : List ℕ) → length s ≤ 70000 → (d : Decoded) → FromBytes true s d → (m : Message) → IsLayoutOf s m
-    → (d .outcome ≡ Done) × (meaning s (d .packet) ≡ m)
+    → (d .outcome ≡ Done) × ((edits : List ℕ) → meaning (stores s edits) (d .packet) ≡ m)
 found s short d promise m l =
     let r = reads-layout m (l .well-formed) (omega (arith, ap length (l .bytes))) in
     let is : reading true s ≡ given (r .packet) = ap (reading true) (sym (l .bytes)) ∙ r .is in
     let g = gives d (r .packet) (promise ∙ ap (beside newPacket) is) in
-    (g .0, ap (meaning s) (g .1) ∙ (ap (λ (t : List ℕ). meaning t (r .packet)) (sym (l .bytes)) ∙ r .means))
+    (g .0, λ edits. ap (meaning (stores s edits)) (g .1) ∙ (ap (λ (t : List ℕ). meaning (stores t edits) (r .packet)) (sym (l .bytes)) ∙ r .means edits))
 
 -- What the answer means is a message with this layout.
-means : (s : List ℕ) → Bytes s → (d : Decoded) → FromBytes true s d → d .outcome ≡ Done → IsLayoutOf s (meaning s (d .packet))
+means : (s : List ℕ) → Bytes s → (d : Decoded) → FromBytes true s d → d .outcome ≡ Done → IsLayoutOf s (meaning (stores s []) (d .packet))
 means s b d promise h =
-    let a = on-given (λ (p : Packet). WellFormed (meaning s p) × (layout (meaning s p) ≡ s)) (reading true s) (d .packet) (accepted s b) (done d (reading true s) promise h) in
+    let a = on-given (λ (p : Packet). (edits : List ℕ) → WellFormed (meaning (stores s edits) p) × (layout (meaning (stores s edits) p) ≡ s)) (reading true s) (d .packet) (accepted s b) (done d (reading true s) promise h) [] in
     record { well-formed = a .0; bytes = a .1 }
 
 pub strict-reading : ReadsStrictly
 strict-reading s b short d promise =
     record {
-      accepts = (λ h. (meaning s (d .packet), means s b d promise h), λ l. found s short d promise (l .0) (l .1) .0);
-      one = λ m n l k. sym (found s short d promise m l .1) ∙ found s short d promise n k .1;
+      accepts = (λ h. (meaning (stores s []) (d .packet), means s b d promise h), λ l. found s short d promise (l .0) (l .1) .0);
+      one = λ m n l k. sym (found s short d promise m l .1 []) ∙ found s short d promise n k .1 [];
       answer = λ m l. found s short d promise m l .1;
     }

@@ -5,20 +5,20 @@ use mathlib.Core.Bool.{true}
 use mathlib.Core.List.{List}
 use lib.ListN.{length}
 use Rattle.rfc.specs.Message.{Message, WellFormed, layout}
-use Rattle.ground.specs.Part.{Bytes}
 use Rattle.refusal.specs.Answer.{written}
 use Rattle.refusal.specs.declared.Written.{Written}
 use Rattle.refusal.specs.declared.Written.the-variants.{Length}
 use Rattle.refusal.proofs.Distinct.{one-written}
+use Rattle.packet.specs.Packet.{Stores}
 use Rattle.packet.specs.Shape.{Shaped}
 use Rattle.packet.specs.Meaning.{meaning}
 use Rattle.packet.specs.declared.Packet.{Packet}
 use Rattle.measuring.specs.declared.Limit.{Limit}
-use Rattle.writing.specs.Writing.{ToBytes}
+use Rattle.writing.specs.Writing.{ToBytes, Held}
 use Rattle.writing.proofs.Strict.{Writable, strict-writes, strict-output, strict-written}
 use Rattle.guarantees.specs.StrictWriting.{Sound, Enough, Wrote, StrictWriting, WritesStrictly}
 
-module _ (limit : Limit) (p : Packet) (shaped : Shaped p) (s : List ℕ) (b : Bytes s) (old : List ℕ) (r : Written) (new : List ℕ) (promise : ToBytes true limit p s old r new) where
+module _ (limit : Limit) (p : Packet) (shaped : Shaped p) (s : Stores) (b : Held s) (old : List ℕ) (r : Written) (new : List ℕ) (promise : ToBytes true limit p s old r new) where
   -- What is writable is written, as the layout of its meaning.
   written-so : Writable limit (length old) s p → Wrote (layout (meaning s p)) old r new
   written-so w =
@@ -29,7 +29,7 @@ module _ (limit : Limit) (p : Packet) (shaped : Shaped p) (s : List ℕ) (b : By
       }
 
   writable : WellFormed (meaning s p) → Sound s p → Enough limit (length old) (layout (meaning s p)) → Writable limit (length old) s p
-  writable w k e = record { store = k .store; records = k .records; wellformed = w; within = e .within; fits = e .fits }
+  writable w k e = record { store = k .short; records = k .records; wellformed = w; within = e .within; fits = e .fits }
 
   strictly : StrictWriting limit p s old r new
   strictly =
@@ -40,7 +40,7 @@ module _ (limit : Limit) (p : Packet) (shaped : Shaped p) (s : List ℕ) (b : By
         exactly = (
           λ l.
               let w = strict-written limit (length old) s p shaped b (l .0) (sym (promise .answer) ∙ ap written (l .1)) .0 in
-              (w .wellformed, record { store = w .store; records = w .records }, record { within = w .within; fits = w .fits }),
+              (w .wellformed, record { short = w .store; records = w .records }, record { within = w .within; fits = w .fits }),
           λ h. (length (layout (meaning s p)), written-so (writable (h .0) (h .1) (h .2)) .answer),
         );
       }

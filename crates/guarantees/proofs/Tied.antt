@@ -1,24 +1,29 @@
 -- The promises that the theorems speak of are the contracts of the functions themselves, as the checker reads them from the code:
 -- a contract that is changed is tied no longer, and this file isn't proved.
+use Prim.Native.Nat.{ℕ}
 use mathlib.Core.Path.{_≡_}
 use mathlib.Core.Bool.{true, false}
-use lib.ListN.{length}
+use mathlib.Core.List.{List}
+use lib.ListN.{length, getD}
 use denote.Ref.{now}
 use Rattle.rfc.specs.Uint.{uint}
 use Rattle.header.specs.Header.{settingOf, withCode}
-use Rattle.option_value.specs.Text.{readText, textOf}
+use Rattle.option_value.specs.Text.{readText, writeText, textOf}
 use Rattle.code_text.specs.CodeText.{codeIn, codeOf}
 use Rattle.measuring.specs.declared.Limit.the-variants.{Default, Given, Unlimited}
 use Rattle.rfc.specs.Block.{blockBytes}
-use Rattle.refusal.specs.Answer.{written, after, beside}
+use Rattle.refusal.specs.Answer.{Answer, written, fitted, after, beside}
+use Rattle.refusal.specs.declared.Written.{Written}
 use Rattle.option_value.specs.Uint.{ReadsUint, uintOf, readU8, readU16, readU32, readU64}
 use Rattle.block_value.specs.Answers.{meant, built}
 use Rattle.block_value.specs.Plain.{ReadsPlain}
 use Rattle.block_value.specs.Strict.{strictNew, strictWriting, ReadsStrict}
+use Rattle.packet.specs.Packet.{none, stores, rangeOf, recordsOf, ofNumber}
+use Rattle.judging.specs.Judge.{lengthsOf}
 use Rattle.reading.specs.Reading.{FromBytes}
 use Rattle.writing.specs.Writing.{ToBytes}
 use Rattle.splicing.specs.Edited.{Edits}
-use Rattle.splicing.specs.Splice.{rangesIn}
+use Rattle.splicing.specs.Splice.{homed}
 use Rattle.editing.specs.Edit.{tokenSet, payloadSet, added, optionSet, cleared, clearedAll}
 use Rattle.typed_options.specs.Setters.{Sets, formatSet, observeSet}
 use Rattle.typed_options.specs.Getters.{GetsFormat, GetsObserve}
@@ -26,6 +31,15 @@ use Rattle.register.specs.Check.{Checks}
 use Rattle.framing.specs.Framing.{ToFrame, FromFrame}
 use Rattle.plan_checking.specs.Plan.{Checks as ChecksPlan}
 use Rattle.planning.specs.Planner.{Plans}
+use Rattle.framing.specs.Framing.{Converts}
+use Rattle.guarantees.specs.Homes.{HandsBack}
+use Rattle.packet.proofs.Range.part.Reads as PartOf
+use Rattle.packet.proofs.OptionRecord.value.Reads as ValueOf
+use Rattle.packet.proofs.Packet.get_token.Reads as GetToken
+use Rattle.packet.proofs.Packet.get_payload.Reads as GetPayload
+use Rattle.packet.proofs.Packet.option_value.Reads as ValueAt
+use Rattle.packet.proofs.Packet.get_option.Reads as GetOption
+use Rattle.packet.proofs.Packet.get_first_option.Reads as GetFirst
 use Rattle.reading.proofs.from_bytes.Reads as FromPlain
 use Rattle.reading.proofs.from_bytes_strict.Reads as FromStrict
 use Rattle.writing.proofs.to_bytes.Reads as ToPlain
@@ -62,6 +76,28 @@ use Rattle.option_value.proofs.OptionValueU64.try_from.Reads as FromU64
 use Rattle.option_value.proofs.option_to_text.Reads as ToText
 use Rattle.code_text.proofs.code_in.Reads as CodeIn
 
+-- Getters.
+part-of : (k : _) (a : _) (r : _) (x : _) → PartOf.Post k a r x → HandsBack (now r) (r .ptr) (a .1 .0 .ptr) (a .1 .1 .0 .ptr) (stores (now (a .1 .0)) (now (a .1 .1 .0))) (a .0)
+part-of k a r x h = record { bytes-are = h .0; place-is = h .1 }
+
+value-of : (k : _) (a : _) (r : _) (x : _) → ValueOf.Post k a r x → HandsBack (now r) (r .ptr) (a .1 .0 .ptr) (a .1 .1 .0 .ptr) (stores (now (a .1 .0)) (now (a .1 .1 .0))) (rangeOf (a .0))
+value-of k a r x h = record { bytes-are = h .0; place-is = h .1 }
+
+get-token : (k : _) (a : _) (r : _) (x : _) → GetToken.Post k a r x → HandsBack (now r) (r .ptr) (a .1 .0 .ptr) (a .1 .1 .0 .ptr) (stores (now (a .1 .0)) (now (a .1 .1 .0))) (a .0 .token)
+get-token k a r x h = record { bytes-are = h .0; place-is = h .1 }
+
+get-payload : (k : _) (a : _) (r : _) (x : _) → GetPayload.Post k a r x → HandsBack (now r) (r .ptr) (a .1 .0 .ptr) (a .1 .1 .0 .ptr) (stores (now (a .1 .0)) (now (a .1 .1 .0))) (a .0 .payload)
+get-payload k a r x h = record { bytes-are = h .0; place-is = h .1 }
+
+value-at : (k : _) (a : _) (r : _) (x : _) → ValueAt.Post k a r x → HandsBack (now r) (r .ptr) (a .1 .0 .ptr) (a .1 .1 .0 .ptr) (stores (now (a .1 .0)) (now (a .1 .1 .0))) (rangeOf (getD (recordsOf (a .0)) (a .1 .1 .1 .0) none))
+value-at k a r x h = record { bytes-are = h .0; place-is = h .1 }
+
+get-option : (k : _) (a : _) (r : _) (x : _) → GetOption.Post k a r x → HandsBack (now r) (r .ptr) (a .1 .0 .ptr) (a .1 .1 .0 .ptr) (stores (now (a .1 .0)) (now (a .1 .1 .0))) (rangeOf (getD (ofNumber (a .1 .1 .1 .0) (recordsOf (a .0))) (a .1 .1 .1 .1 .0) none))
+get-option k a r x h = record { bytes-are = h .0; place-is = h .1 }
+
+get-first-option : (k : _) (a : _) (r : _) (x : _) → GetFirst.Post k a r x → HandsBack (now r) (r .ptr) (a .1 .0 .ptr) (a .1 .1 .0 .ptr) (stores (now (a .1 .0)) (now (a .1 .1 .0))) (rangeOf (getD (ofNumber (a .1 .1 .1 .0) (recordsOf (a .0))) 0 none))
+get-first-option k a r x h = record { bytes-are = h .0; place-is = h .1 }
+
 -- Reading.
 from-bytes : (k : _) (a : _) (r : _) (x : _) → FromPlain.Post k a r x → FromBytes false (now (a .0)) r
 from-bytes k a r x h = h
@@ -70,35 +106,35 @@ from-bytes-strict : (k : _) (a : _) (r : _) (x : _) → FromStrict.Post k a r x 
 from-bytes-strict k a r x h = h
 
 -- Writing, at each limit, plain and strict.
-to-bytes : (k : _) (a : _) (r : _) (x : _) → ToPlain.Post k a r x → ToBytes false Default (a .0) (now (a .1 .0)) (now (a .1 .1 .0)) r (now (x .1 .1 .0))
+to-bytes : (k : _) (a : _) (r : _) (x : _) → ToPlain.Post k a r x → ToBytes false Default (a .0) (stores (now (a .1 .0)) (now (a .1 .1 .0))) (now (a .1 .1 .1 .0)) r (now (x .1 .1 .1 .0))
 to-bytes k a r x h = h
 
-to-bytes-with-limit : (k : _) (a : _) (r : _) (x : _) → ToPlainLimit.Post k a r x → ToBytes false (Given (a .1 .0)) (a .0) (now (a .1 .1 .0)) (now (a .1 .1 .1 .0)) r (now (x .1 .1 .1 .0))
+to-bytes-with-limit : (k : _) (a : _) (r : _) (x : _) → ToPlainLimit.Post k a r x → ToBytes false (Given (a .1 .0)) (a .0) (stores (now (a .1 .1 .0)) (now (a .1 .1 .1 .0))) (now (a .1 .1 .1 .1 .0)) r (now (x .1 .1 .1 .1 .0))
 to-bytes-with-limit k a r x h = h
 
-to-bytes-unlimited : (k : _) (a : _) (r : _) (x : _) → ToPlainUnlimited.Post k a r x → ToBytes false Unlimited (a .0) (now (a .1 .0)) (now (a .1 .1 .0)) r (now (x .1 .1 .0))
+to-bytes-unlimited : (k : _) (a : _) (r : _) (x : _) → ToPlainUnlimited.Post k a r x → ToBytes false Unlimited (a .0) (stores (now (a .1 .0)) (now (a .1 .1 .0))) (now (a .1 .1 .1 .0)) r (now (x .1 .1 .1 .0))
 to-bytes-unlimited k a r x h = h
 
-to-bytes-strict : (k : _) (a : _) (r : _) (x : _) → ToStrict.Post k a r x → ToBytes true Default (a .0) (now (a .1 .0)) (now (a .1 .1 .0)) r (now (x .1 .1 .0))
+to-bytes-strict : (k : _) (a : _) (r : _) (x : _) → ToStrict.Post k a r x → ToBytes true Default (a .0) (stores (now (a .1 .0)) (now (a .1 .1 .0))) (now (a .1 .1 .1 .0)) r (now (x .1 .1 .1 .0))
 to-bytes-strict k a r x h = h
 
-to-bytes-with-limit-strict : (k : _) (a : _) (r : _) (x : _) → ToStrictLimit.Post k a r x → ToBytes true (Given (a .1 .0)) (a .0) (now (a .1 .1 .0)) (now (a .1 .1 .1 .0)) r (now (x .1 .1 .1 .0))
+to-bytes-with-limit-strict : (k : _) (a : _) (r : _) (x : _) → ToStrictLimit.Post k a r x → ToBytes true (Given (a .1 .0)) (a .0) (stores (now (a .1 .1 .0)) (now (a .1 .1 .1 .0))) (now (a .1 .1 .1 .1 .0)) r (now (x .1 .1 .1 .1 .0))
 to-bytes-with-limit-strict k a r x h = h
 
-to-bytes-unlimited-strict : (k : _) (a : _) (r : _) (x : _) → ToStrictUnlimited.Post k a r x → ToBytes true Unlimited (a .0) (now (a .1 .0)) (now (a .1 .1 .0)) r (now (x .1 .1 .0))
+to-bytes-unlimited-strict : (k : _) (a : _) (r : _) (x : _) → ToStrictUnlimited.Post k a r x → ToBytes true Unlimited (a .0) (stores (now (a .1 .0)) (now (a .1 .1 .0))) (now (a .1 .1 .1 .0)) r (now (x .1 .1 .1 .0))
 to-bytes-unlimited-strict k a r x h = h
 
 -- Edits.
-set-token : (k : _) (a : _) (r : _) (x : _) → SetToken.Post k a r x → Edits (a .0) (tokenSet (a .0) (record { start = a .1 .0; len = a .1 .1 .0 })) r
+set-token : (k : _) (a : _) (r : _) (x : _) → SetToken.Post k a r x → Edits (a .0) (tokenSet (a .0) (record { home = a .1 .0; start = a .1 .1 .0; len = a .1 .1 .1 .0 })) r
 set-token k a r x h = h
 
-set-payload : (k : _) (a : _) (r : _) (x : _) → SetPayload.Post k a r x → Edits (a .0) (payloadSet (a .0) (record { start = a .1 .0; len = a .1 .1 .0 })) r
+set-payload : (k : _) (a : _) (r : _) (x : _) → SetPayload.Post k a r x → Edits (a .0) (payloadSet (a .0) (record { home = a .1 .0; start = a .1 .1 .0; len = a .1 .1 .1 .0 })) r
 set-payload k a r x h = h
 
-add-option : (k : _) (a : _) (r : _) (x : _) → AddOption.Post k a r x → Edits (a .0) (added (a .0) (a .1 .0) (record { start = a .1 .1 .0; len = a .1 .1 .1 .0 })) r
+add-option : (k : _) (a : _) (r : _) (x : _) → AddOption.Post k a r x → Edits (a .0) (added (a .0) (a .1 .0) (record { home = a .1 .1 .0; start = a .1 .1 .1 .0; len = a .1 .1 .1 .1 .0 })) r
 add-option k a r x h = h
 
-set-option : (k : _) (a : _) (r : _) (x : _) → SetOption.Post k a r x → Edits (a .0) (optionSet (a .0) (a .1 .0) (rangesIn (now (a .1 .1 .0)))) r
+set-option : (k : _) (a : _) (r : _) (x : _) → SetOption.Post k a r x → Edits (a .0) (homed (now (a .1 .1 .0)) (optionSet (a .0) (a .1 .0))) r
 set-option k a r x h = h
 
 clear-option : (k : _) (a : _) (r : _) (x : _) → ClearOption.Post k a r x → Edits (a .0) (cleared (a .0) (a .1 .0)) r
@@ -140,10 +176,10 @@ u32-from k a r x h = h
 u64-from : (k : _) (a : _) (r : _) (x : _) → FromU64.Post k a r x → ReadsUint 8 (now (a .0)) (readU64 r)
 u64-from k a r x h = h
 
-get-content-format : (k : _) (a : _) (r : _) (x : _) → GetFormat.Post k a r x → GetsFormat (now (a .1 .0)) (a .0) r
+get-content-format : (k : _) (a : _) (r : _) (x : _) → GetFormat.Post k a r x → GetsFormat (stores (now (a .1 .0)) (now (a .1 .1 .0))) (a .0) r
 get-content-format k a r x h = h
 
-get-observe-value : (k : _) (a : _) (r : _) (x : _) → GetObserve.Post k a r x → GetsObserve (now (a .1 .0)) (a .0) r
+get-observe-value : (k : _) (a : _) (r : _) (x : _) → GetObserve.Post k a r x → GetsObserve (stores (now (a .1 .0)) (now (a .1 .1 .0))) (a .0) r
 get-observe-value k a r x h = h
 
 block-from : (k : _) (a : _) (r : _) (x : _) → BlockFrom.Post k a r x → ReadsPlain (now (a .0)) r
@@ -161,7 +197,7 @@ block-new-strict : (k : _) (a : _) (r : _) (x : _) → BlockNewStrict.Post k a r
 block-new-strict k a r x h = h
 
 -- The register check, frames and plans.
-check : (k : _) (a : _) (r : _) (x : _) → CheckRegister.Post k a r x → Checks (length (now (a .1 .0))) (a .0) r
+check : (k : _) (a : _) (r : _) (x : _) → CheckRegister.Post k a r x → Checks (lengthsOf (stores (now (a .1 .0)) (now (a .1 .1 .0)))) (a .0) r
 check k a r x h = h
 
 to-frame : (k : _) (a : _) (r : _) (x : _) → FrameOut.Post k a r x → ToFrame (now (a .0)) (now (a .1 .0)) r (now (x .1 .0))

@@ -1,24 +1,22 @@
 -- The refusals of a writer: the order of its tests, walked in each mode.
-use Prim.Native.Nat.{ℕ, _≤_}
+use Prim.Native.Nat.{ℕ}
 use mathlib.Core.Path.{_≡_, refl, sym, ap, _∙_, subst}
 use mathlib.Core.Bool.{Bool, true, false, not}
-use mathlib.Core.List.{List}
 use lib.Dec.{T, ltb, eqb}
 use lib.ListN.{length}
 use native.Mathlib.Omega.{arith}
-use borrow.Author.Tests.{le-ltb, lt-ltb}
 use Rattle.ground.specs.Table.{listed}
 use Rattle.ground.specs.Choice.{both}
-use Rattle.ground.proofs.Choice.{on, on-lt, by-lt}
+use Rattle.ground.proofs.Choice.{on, on-lt}
 use Rattle.refusal.specs.Answer.{Answer, refused, onward, written, fitted}
 use Rattle.refusal.specs.Number.{numberOf}
 use Rattle.refusal.specs.declared.Refusal.{Refusal}
 use Rattle.refusal.specs.declared.Written.{Written}
 use Rattle.refusal.specs.declared.Written.the-variants.{Length, Refused}
 use Rattle.refusal.proofs.Answers.{Refusing, on-refused, refusing-onward, not-refused, same-refused}
-use Rattle.packet.specs.Limits.{maxStore}
+use Rattle.packet.specs.Packet.{Stores}
 use Rattle.packet.specs.declared.Packet.{Packet}
-use Rattle.judging.specs.Judge.{badPacket}
+use Rattle.judging.specs.Judge.{lengthsOf, tooLong, badPacket}
 use Rattle.measuring.specs.Measuring.{counted, over, emptyCarries, strictly, limited}
 use Rattle.measuring.specs.declared.Limit.{Limit}
 use Rattle.writing.specs.Writing.{bytesWritten, writing}
@@ -41,7 +39,7 @@ common : (strict : Bool) → T (listed 10 (writerNumbers strict)) × T (listed 1
 common true = (tt, tt, tt, tt)
 common false = (tt, tt, tt, tt)
 
-module _ (strict : Bool) (limit : Limit) (room : ℕ) (s : List ℕ) (p : Packet) where
+module _ (strict : Bool) (limit : Limit) (room : ℕ) (s : Stores) (p : Packet) where
   size-asks : Among strict (limited limit (counted strict p) (fitted room (bytesWritten strict s p)))
   unfolding limited
   size-asks =
@@ -51,8 +49,8 @@ module _ (strict : Bool) (limit : Limit) (room : ℕ) (s : List ℕ) (p : Packet
   among : Among strict (writing strict limit room s p)
   unfolding writing
   among =
-      on-lt (Among strict) maxStore (length s) (λ h. common strict .0)
-      (λ h. on (Among strict) (badPacket (length s) p) (λ b. common strict .1)
+      on (Among strict) (tooLong (lengthsOf s)) (λ h. common strict .0)
+      (λ h. on (Among strict) (badPacket (lengthsOf s) p) (λ b. common strict .1)
       (λ b. refusing-onward _ (strictly strict p) _ (strict-asks strict p) (λ _. size-asks)))
 
 pub writer-refusals : WriterRefusals
@@ -60,7 +58,7 @@ writer-refusals strict limit p s old r new promise e is =
     on-refused (λ k. T (listed k (writerNumbers strict))) (writing strict limit (length old) s p) (numberOf e) (among strict limit (length old) s p) (sym (promise .answer) ∙ ap written is)
 
 -- What is asked after 10 and 11 is refused neither.
-module _ (strict : Bool) (limit : Limit) (room : ℕ) (s : List ℕ) (p : Packet) where
+module _ (strict : Bool) (limit : Limit) (room : ℕ) (s : Stores) (p : Packet) where
   abbrev after : Answer ℕ
   after = onward (strictly strict p) (λ _. limited limit (counted strict p) (fitted room (bytesWritten strict s p)))
 
@@ -88,7 +86,7 @@ module _ (strict : Bool) (limit : Limit) (room : ℕ) (s : List ℕ) (p : Packet
     sound-then : Sound s p → (e : Refusal) → r ≡ Refused e → Neither (numberOf e)
     unfolding writing
     sound-then k e is =
-        let rest : written r ≡ after = answer ∙ rw (le-ltb maxStore (length s) (k .store), k .records) refl in
+        let rest : written r ≡ after = answer ∙ rw (k .short, k .records) refl in
         on-refused Neither after (numberOf e) other (sym rest ∙ ap written is)
 
     module _ (f : (e : Refusal) → r ≡ Refused e → Neither (numberOf e)) where
@@ -96,17 +94,20 @@ module _ (strict : Bool) (limit : Limit) (room : ℕ) (s : List ℕ) (p : Packet
       not-so (Length n) is k e = not-refused e
       not-so (Refused e) is k q = subst Neither (same-refused q) (f e is)
 
-      good : (t : Bool) → badPacket (length s) p ≡ t → length s ≤ maxStore → badPacket (length s) p ≡ false
+      good : (t : Bool) → badPacket (lengthsOf s) p ≡ t → tooLong (lengthsOf s) ≡ false → badPacket (lengthsOf s) p ≡ false
       unfolding writing
-      good true b h = absurd (not-so r refl 11 (answer ∙ rw (le-ltb maxStore (length s) h, b) refl) .1 refl)
+      good true b h = absurd (not-so r refl 11 (answer ∙ rw (h, b) refl) .1 refl)
       good false b h = b
 
-      then-sound : Sound s p
+      short : (t : Bool) → tooLong (lengthsOf s) ≡ t → tooLong (lengthsOf s) ≡ false
       unfolding writing
+      short true long = absurd (not-so r refl 10 (answer ∙ rw long refl) .0 refl)
+      short false h = h
+
+      then-sound : Sound s p
       then-sound =
-          let short : length s ≤ maxStore =
-          by-lt maxStore (length s) (λ h. absurd (not-so r refl 10 (answer ∙ rw (lt-ltb maxStore (length s) h) refl) .0 refl)) (λ h. h) in
-          record { store = short; records = good (badPacket (length s) p) refl short }
+          let fits = short (tooLong (lengthsOf s)) refl in
+          record { short = fits; records = good (badPacket (lengthsOf s) p) refl fits }
 
 pub sound-exactly : SoundExactly
 sound-exactly strict limit p s old r new promise =

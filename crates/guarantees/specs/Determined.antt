@@ -22,6 +22,8 @@ use Rattle.register.specs.Check.{checked}
 use Rattle.unflat.specs.Unflat.{taken}
 use Rattle.plan_checking.specs.Plan.{Checks}
 use Rattle.planning.specs.Planner.{Plans}
+use Rattle.packet.specs.Packet.{Stores}
+use Rattle.packet.specs.declared.Packet.{Packet}
 
 -- Different answers are told differently.
 abbrev pub TellsApart : {A B : Type 0} → (A → B) → Type 0

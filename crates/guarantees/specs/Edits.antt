@@ -1,4 +1,4 @@
--- What edits do to the message that a packet means, over any store: an edit that is done changes what it names and nothing else,
+-- What edits do to the message that a packet means, over any two stores: an edit that is done changes what it names and nothing else,
 -- and leaves a packet that edits take.
 use Prim.Native.Nat.{ℕ}
 use mathlib.Core.Path.{_≡_}
@@ -8,21 +8,22 @@ use lib.ListN.{length}
 use Rattle.rfc.specs.Uint.{uint}
 use Rattle.refusal.specs.Answer.{Answer}
 use Rattle.refusal.specs.declared.Outcome.the-variants.{Done}
-use Rattle.packet.specs.Packet.{bytesOf, recordsOf}
+use Rattle.packet.specs.Packet.{Stores, stores, bytesOf, recordsOf}
 use Rattle.packet.specs.Meaning.{meaning}
 use Rattle.packet.specs.declared.Packet.{Packet}
 use Rattle.packet.specs.declared.Range.{Range}
 use Rattle.judging.specs.Judge.{misordered}
 use Rattle.splicing.specs.Edited.{Edits}
+use Rattle.splicing.specs.Splice.{rangesIn, homed}
 use Rattle.splicing.specs.declared.Edited.{Edited}
 use Rattle.editing.specs.Edit.{removed, tokenSet, payloadSet, added, optionSet, cleared, clearedAll}
 use Rattle.editing.specs.Message.{withOptions, withToken, withPayload, optionAdded, optionsCleared, optionsSet}
 use Rattle.typed_options.specs.Apart.{Untouched}
 use Rattle.typed_options.specs.Setters.{Sets, formatSet, observeSet}
 
--- An edit that meets its promise and is done: over every store the new packet means this, and edits take it.
-abbrev pub Does : Packet → Answer Packet → (List ℕ → Packet → Type 0) → Type 0
-Does p a Means = (r : Edited) → Edits p a r → r .outcome ≡ Done → ((s : List ℕ) → Means s (r .packet)) × (misordered (r .packet) ≡ false)
+-- An edit that meets its promise and is done: over any two stores the new packet means this, and edits take it.
+abbrev pub Does : Packet → Answer Packet → (Stores → Packet → Type 0) → Type 0
+Does p a Means = (r : Edited) → Edits p a r → r .outcome ≡ Done → ((s : Stores) → Means s (r .packet)) × (misordered (r .packet) ≡ false)
 
 pub record EditsMean (p : Packet) : Type 0 where
   -- The token, and the payload, are what the range names.
@@ -31,15 +32,16 @@ pub record EditsMean (p : Packet) : Type 0 where
   -- An added option stands after the last of the same or a lower number.
   pub added : (n : ℕ) (range : Range) → Does p (added p n range) (λ s q. meaning s q ≡ optionAdded (meaning s p) n (bytesOf s range))
   -- The values set are the number's only ones, in their order.
-  pub set : (n : ℕ) (ranges : List Range) → Does p (optionSet p n ranges) (λ s q. meaning s q ≡ optionsSet (meaning s p) n (map (bytesOf s) ranges))
+  pub set : (n : ℕ) (numbers : List ℕ)
+      → Does p (homed numbers (optionSet p n)) (λ s q. meaning s q ≡ optionsSet (meaning s p) n (map (bytesOf s) (rangesIn numbers)))
   -- A cleared number has none, and after clearing all no number has.
   pub cleared : (n : ℕ) → Does p (cleared p n) (λ s q. meaning s q ≡ optionsCleared (meaning s p) n)
   pub cleared-all : Does p (clearedAll p) (λ s q. meaning s q ≡ withOptions (meaning s p) [])
 
--- The two setters, over the store that they leave, where the bytes that they put touch no range that stays in use: a content format
+-- The two setters, over any datagram and the edit store that they leave, where the bytes that they put touch no range that stays in use: a content format
 -- is one option 12 more, and Observe is the only option 6.
 pub record SettersMean (p : Packet) (start n : ℕ) (old : List ℕ) (r : Edited) (new : List ℕ) : Type 0 where
   pub format : Sets p (formatSet old start p n) start (uint 2 n) old r new → r .outcome ≡ Done → Untouched start (length (uint 2 n)) p (recordsOf p)
-      → meaning new (r .packet) ≡ optionAdded (meaning old p) 12 (uint 2 n)
+      → (d : List ℕ) → meaning (stores d new) (r .packet) ≡ optionAdded (meaning (stores d old) p) 12 (uint 2 n)
   pub observe : Sets p (observeSet old start p n) start (uint 4 n) old r new → r .outcome ≡ Done → Untouched start (length (uint 4 n)) p (removed 6 (recordsOf p))
-      → meaning new (r .packet) ≡ optionsSet (meaning old p) 6 (uint 4 n ∷ [])
+      → (d : List ℕ) → meaning (stores d new) (r .packet) ≡ optionsSet (meaning (stores d old) p) 6 (uint 4 n ∷ [])

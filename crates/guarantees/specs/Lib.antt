@@ -7,6 +7,7 @@ pub mod StrictWriting
 pub mod RoundTrips
 pub mod Modes
 pub mod Edits
+pub mod Homes
 pub mod Register
 pub mod Padded
 pub mod Blocks

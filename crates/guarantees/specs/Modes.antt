@@ -14,6 +14,7 @@ use Rattle.refusal.specs.Number.{numberOf}
 use Rattle.refusal.specs.declared.Refusal.{Refusal}
 use Rattle.refusal.specs.declared.Outcome.the-variants.{Done, Refused}
 use Rattle.packet.specs.Limits.{maxPlainValue}
+use Rattle.packet.specs.Packet.{stores}
 use Rattle.packet.specs.Meaning.{meaning}
 use Rattle.reading.specs.Reading.{FromBytes}
 use Rattle.reading.specs.declared.Decoded.{Decoded}
@@ -30,9 +31,9 @@ Refuses d = (e : Refusal) × (d .outcome ≡ Refused e)
 abbrev pub RefusesWith : List ℕ → Decoded → Type 0
 RefusesWith numbers d = (e : Refusal) × (d .outcome ≡ Refused e) × T (listed (numberOf e) numbers)
 
--- The message that a reader's packet means.
-abbrev pub said : List ℕ → Decoded → Message
-said s d = meaning s (d .packet)
+-- The message that a reader's packet means, beside an edit store.
+abbrev pub said : List ℕ → List ℕ → Decoded → Message
+said s edits d = meaning (stores s edits) (d .packet)
 
 -- The option is one of these.
 abbrev pub Among : Opt → List Opt → Type 0
@@ -63,36 +64,36 @@ BareMarker s m = s ≡ layout m ++ (0xFF ∷ [])
 abbrev pub Cause : List ℕ → Message → Type 0
 Cause s m = OtherVersion m ⊎ (Carries s m ⊎ BareMarker s m)
 
-pub record Modes (s : List ℕ) (plain strict : Decoded) : Type 0 where
+pub record Modes (s edits : List ℕ) (plain strict : Decoded) : Type 0 where
   -- If both accept, the meanings are equal.
-  pub both : Accepts plain → Accepts strict → said s plain ≡ said s strict
+  pub both : Accepts plain → Accepts strict → said s edits plain ≡ said s edits strict
   -- If strict alone accepts, some value is longer than 65535 bytes.
-  pub strict-alone : Accepts strict → Refuses plain → HasLong (said s strict)
+  pub strict-alone : Accepts strict → Refuses plain → HasLong (said s edits strict)
   -- Every such value makes plain refuse, with 4.
-  pub long-value : Accepts strict → (o : Opt) → Among o (said s strict .options) → Long o → RefusesWith (4 ∷ []) plain
+  pub long-value : Accepts strict → (o : Opt) → Among o (said s edits strict .options) → Long o → RefusesWith (4 ∷ []) plain
   -- If plain alone accepts, the version isn't 1, or code byte 0 carries something, or a bare marker ends the datagram.
-  pub plain-alone : Accepts plain → Refuses strict → Cause s (said s plain)
+  pub plain-alone : Accepts plain → Refuses strict → Cause s (said s edits plain)
   -- Another version makes strict refuse, with 7.
-  pub other-version : Accepts plain → OtherVersion (said s plain) → RefusesWith (7 ∷ []) strict
+  pub other-version : Accepts plain → OtherVersion (said s edits plain) → RefusesWith (7 ∷ []) strict
   -- Code byte 0 that carries something makes strict refuse, with 7 or 8.
-  pub carries : Accepts plain → Carries s (said s plain) → RefusesWith (7 ∷ 8 ∷ []) strict
+  pub carries : Accepts plain → Carries s (said s edits plain) → RefusesWith (7 ∷ 8 ∷ []) strict
   -- A bare marker makes strict refuse, with 7, 8 or 9.
-  pub bare-marker : Accepts plain → BareMarker s (said s plain) → RefusesWith (7 ∷ 8 ∷ 9 ∷ []) strict
+  pub bare-marker : Accepts plain → BareMarker s (said s edits plain) → RefusesWith (7 ∷ 8 ∷ 9 ∷ []) strict
 
 -- What follows.
-pub record Exactly (s : List ℕ) (plain strict : Decoded) : Type 0 where
+pub record Exactly (s edits : List ℕ) (plain strict : Decoded) : Type 0 where
   -- Where plain accepts, strict accepts exactly when none of the three causes holds.
-  pub strict-too : Accepts plain → (Accepts strict ↔ (Cause s (said s plain) → ⊥))
+  pub strict-too : Accepts plain → (Accepts strict ↔ (Cause s (said s edits plain) → ⊥))
   -- Where strict accepts, plain accepts exactly when no value is longer than 65535 bytes.
-  pub plain-too : Accepts strict → (Accepts plain ↔ (HasLong (said s strict) → ⊥))
+  pub plain-too : Accepts strict → (Accepts plain ↔ (HasLong (said s edits strict) → ⊥))
   -- Where plain accepts, the datagram is the layout of the message, or a bare marker ends it.
-  pub ends : Accepts plain → (s ≡ layout (said s plain)) ⊎ BareMarker s (said s plain)
+  pub ends : Accepts plain → (s ≡ layout (said s edits plain)) ⊎ BareMarker s (said s edits plain)
 
--- So it is of every datagram, and of every pair of answers that meet the two readers' promises.
+-- So it is of every datagram, beside any edit store, and of every pair of answers that meet the two readers' promises.
 abbrev pub TwoModes : Type 0
 TwoModes =
-    (s : List ℕ) → Bytes s → (plain strict : Decoded) → FromBytes false s plain → FromBytes true s strict
-    → Modes s plain strict × Exactly s plain strict
+    (s edits : List ℕ) → Bytes s → (plain strict : Decoded) → FromBytes false s plain → FromBytes true s strict
+    → Modes s edits plain strict × Exactly s edits plain strict
 
 -- Where both refuse, the numbers needn't be equal: of `0F 00 00 01`, a token of 15 bytes in version 0, plain says 2 and strict 7.
 abbrev pub RefusedApart : Type 0

@@ -18,7 +18,7 @@ use Rattle.block_value.specs.Answers.{uintIn, blockRead}
 use Rattle.block_value.specs.Plain.{ReadsPlain}
 use Rattle.block_value.specs.Strict.{ReadsStrict}
 use Rattle.block_value.specs.declared.BlockRead.{BlockRead}
-use Rattle.packet.specs.Packet.{recordsOf, ofNumber, valueOf}
+use Rattle.packet.specs.Packet.{Stores, recordsOf, ofNumber, valueOf}
 use Rattle.packet.specs.declared.Packet.{Packet}
 use Rattle.typed_options.specs.Getters.{onFirst, GetsFormat, GetsObserve}
 use Rattle.typed_options.specs.declared.ContentFormat.{ContentFormat}
@@ -73,7 +73,7 @@ BlocksCount =
     → (ReadsPlain bs r → Pads 2 bs (uintIn p)) × (ReadsStrict bs r → Pads 3 bs (uintIn p))
 
 -- The leading zeros of the first value of an option number: 0 where there is none, or it has more bytes than the width.
-abbrev pub firstZeros : ℕ → ℕ → List ℕ → Packet → ℕ
+abbrev pub firstZeros : ℕ → ℕ → Stores → Packet → ℕ
 firstZeros number width s p =
     onFirst (ofNumber number (recordsOf p)) 0 (λ r. pick (ltb width (length (valueOf s r))) 0 (leadingZeros (valueOf s r)))
 
@@ -90,6 +90,6 @@ observeZeros (Refused e) = 0
 -- A getter hands the count of the first value on, listed or not.
 abbrev pub GettersCount : Type 0
 GettersCount =
-    (s : List ℕ) (p : Packet)
+    (s : Stores) (p : Packet)
     → ((r : ContentFormat) → GetsFormat s p r → formatZeros r ≡ firstZeros 12 2 s p)
     × ((r : Observe) → GetsObserve s p r → observeZeros r ≡ firstZeros 6 4 s p)

@@ -19,8 +19,9 @@ use Rattle.header.specs.Header.{settingOf}
 use Rattle.header.specs.declared.Header.{Header}
 use Rattle.header.specs.declared.HeaderSet.{HeaderSet}
 use Rattle.packet.specs.Limits.{maxOptions}
-use Rattle.packet.specs.Packet.{newPacket}
+use Rattle.packet.specs.Packet.{Stores, newPacket}
 use Rattle.packet.specs.declared.Packet.{Packet}
+use Rattle.judging.specs.declared.Lengths.{Lengths}
 use Rattle.reading.specs.Reading.{FromBytes}
 use Rattle.reading.specs.declared.Decoded.{Decoded}
 use Rattle.framing.specs.Framing.{Converts}
@@ -42,7 +43,7 @@ OutputKept =
     (a : Answer ℕ) (at : ℕ) (bytes old : List ℕ) (r : Written) (new : List ℕ) → written r ≡ a → new ≡ after a at bytes old
     → (e : Refusal) → r ≡ Refused e → new ≡ old
 
--- A refused conversion to a frame, or back from one, leaves the output as it was.
+-- A refused conversion, to a frame or back from one, leaves the output as it was.
 abbrev pub FrameOutputKept : Type 0
 FrameOutputKept = (a : Answer (List ℕ)) (old : List ℕ) (r : Written) (new : List ℕ) → Converts a old r new → (e : Refusal) → r ≡ Refused e → new ≡ old
 
@@ -58,7 +59,7 @@ NoPacketRead = (strict : Bool) (s : List ℕ) (d : Decoded) → FromBytes strict
 abbrev pub PacketKept : Type 0
 PacketKept = (a : Answer Packet) (old : Packet) (r : Edited) → Edits old a r → DoneOr (r .outcome) (r .packet) old
 
--- A refused setter leaves the store as it was, too.
+-- A refused setter leaves the edit store as it was, too.
 abbrev pub StoreKept : Type 0
 StoreKept =
     (a : Answer Packet) (old : Packet) (r : Edited) (start : ℕ) (bytes store new : List ℕ) → Sets old a start bytes store r new
@@ -71,7 +72,7 @@ HeaderKept = (a : Answer Header) (old : Header) (r : HeaderSet) → settingOf r 
 -- Beside a refused check of the register no record is kept.
 abbrev pub NothingKept : Type 0
 NothingKept =
-    (store : ℕ) (p : Packet) (c : Checked) → Checks store p c → (c .outcome ≡ Passes) ⊎ (c .kept ≡ replicate maxOptions false)
+    (lengths : Lengths) (p : Packet) (c : Checked) → Checks lengths p c → (c .outcome ≡ Passes) ⊎ (c .kept ≡ replicate maxOptions false)
 
 -- A planner that is refused leaves the list as it was.
 abbrev pub ListKept : Type 0

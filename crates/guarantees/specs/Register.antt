@@ -7,6 +7,7 @@ use mathlib.Core.Bool.{false}
 use lib.ListN.{length, getD}
 use Rattle.packet.specs.Packet.{none, recordsOf}
 use Rattle.packet.specs.declared.Packet.{Packet}
+use Rattle.judging.specs.declared.Lengths.{Lengths}
 use Rattle.register.specs.Register.{registered}
 use Rattle.register.specs.Check.{passes, refusedAt, Checks}
 use Rattle.register.specs.First.{recognisedAt, NoneRejected, First, Sound}
@@ -14,28 +15,28 @@ use Rattle.register.specs.Severe.{severely}
 use Rattle.register.specs.declared.Checked.{Checked}
 use Rattle.register.specs.declared.Verdict.the-variants.{Passes, BadOption}
 
-pub record RegisterCheck (store : ℕ) (p : Packet) (c : Checked) : Type 0 where
+pub record RegisterCheck (lengths : Lengths) (p : Packet) (c : Checked) : Type 0 where
   -- It passes exactly when it isn't refused 10 or 11 and each critical record is recognised after the kept ones before it.
-  pub passing : (c .outcome ≡ Passes) ↔ (Sound store p × NoneRejected (recordsOf p) (length (recordsOf p)))
+  pub passing : (c .outcome ≡ Passes) ↔ (Sound lengths p × NoneRejected (recordsOf p) (length (recordsOf p)))
   -- 16 names a record exactly when it is the first critical one that isn't recognised.
-  pub named : (i : ℕ) → (c .outcome ≡ BadOption i) ↔ (Sound store p × First (recordsOf p) i)
+  pub named : (i : ℕ) → (c .outcome ≡ BadOption i) ↔ (Sound lengths p × First (recordsOf p) i)
   -- Where nothing is refused, a record is reported kept exactly when it is recognised after the kept ones before it.
   pub kept : c .outcome ≡ Passes → (i : ℕ) → i < length (recordsOf p) → getD (c .kept) i false ≡ recognisedAt (recordsOf p) i
   -- Past the last record nothing is.
   pub past : c .outcome ≡ Passes → (i : ℕ) → length (recordsOf p) ≤ i → getD (c .kept) i false ≡ false
 
--- So it is of every packet and store, and of every answer that meets the promise.
+-- So it is of every packet, over stores of any lengths, and of every answer that meets the promise.
 abbrev pub ChecksRegister : Type 0
-ChecksRegister = (store : ℕ) (p : Packet) (c : Checked) → Checks store p c → RegisterCheck store p c
+ChecksRegister = (lengths : Lengths) (p : Packet) (c : Checked) → Checks lengths p c → RegisterCheck lengths p c
 
 -- What the severe rule lets pass passes, and then the listed records are kept and no others.
 abbrev pub PassesMore : Type 0
 PassesMore =
-    (store : ℕ) (p : Packet) (c : Checked) → Checks store p c → severely store p ≡ passes
+    (lengths : Lengths) (p : Packet) (c : Checked) → Checks lengths p c → severely lengths p ≡ passes
     → (c .outcome ≡ Passes) × ((i : ℕ) → i < length (recordsOf p) → getD (c .kept) i false ≡ registered (getD (recordsOf p) i none .number))
 
 -- What is refused 16 was refused 16 by the severe rule, for the same record or one before it.
 abbrev pub RefusesLater : Type 0
 RefusesLater =
-    (store : ℕ) (p : Packet) (c : Checked) → Checks store p c → (i : ℕ) → c .outcome ≡ BadOption i
-    → (j : ℕ) × (j ≤ i) × (severely store p ≡ refusedAt 16 j)
+    (lengths : Lengths) (p : Packet) (c : Checked) → Checks lengths p c → (i : ℕ) → c .outcome ≡ BadOption i
+    → (j : ℕ) × (j ≤ i) × (severely lengths p ≡ refusedAt 16 j)

@@ -5,6 +5,7 @@ use mathlib.Core.Bool.{Bool, true, false}
 use mathlib.Core.List.{List, [], _∷_, map}
 use Rattle.rfc.specs.Message.{Message, Opt}
 use Rattle.refusal.specs.Answer.{Answer, given, refused, onward}
+use Rattle.packet.specs.Packet.{stores}
 use Rattle.packet.specs.Meaning.{meaning}
 use Rattle.reading.specs.Reading.{reading}
 
@@ -50,9 +51,9 @@ table =
     ∷ record { bytes = 0x40 ∷ 0x01 ∷ 0x00 ∷ 0x01 ∷ 0xE0 ∷ 0xFE ∷ 0xF2 ∷ 0x1E ∷ 0xFE ∷ 0xF3 ∷ []; plain = refused 4; strict = refused 3 }
     ∷ []
 
--- What a mode answers to a datagram.
+-- What a mode answers to a datagram, beside no edit store.
 abbrev pub answers : Bool → List ℕ → Answer Message
-answers strict s = onward (reading strict s) (λ p. given (meaning s p))
+answers strict s = onward (reading strict s) (λ p. given (meaning (stores s []) p))
 
 -- Every row of the table states what the two modes answer.
 abbrev pub Samples : Type 0

@@ -2,20 +2,35 @@
 use Prim.Native.Nat.{ℕ, _+_, _-_}
 use mathlib.Core.Bool.{Bool, false}
 use mathlib.Core.List.{List, [], _∷_}
+use lib.ListN.{length}
 use lib.Dec.{ltb}
 use Rattle.ground.specs.Choice.{pick, either}
 use Rattle.refusal.specs.Answer.{Answer, given, refused}
-use Rattle.packet.specs.Limits.{maxOptions, maxValue, maxToken}
-use Rattle.packet.specs.Packet.{rangeOf, recordsOf}
+use Rattle.packet.specs.Limits.{maxStore, maxOptions, maxValue, maxToken}
+use Rattle.packet.specs.Packet.{chosen, Stores, rangeOf, recordsOf}
 use Rattle.packet.specs.declared.Packet.{Packet}
 use Rattle.packet.specs.declared.OptionRecord.{OptionRecord}
 use Rattle.packet.specs.declared.Range.{Range}
+use Rattle.packet.specs.declared.Home.{Home}
+use Rattle.judging.specs.declared.Lengths.{Lengths}
 use Rattle.judging.specs.declared.Judged.{Judged}
 use Rattle.judging.specs.declared.Judged.the-variants.{OptionsSize, BadRecord}
 
--- A range outside a store of this length: start + length, as whole numbers, is more; an empty range can be outside too.
-abbrev pub outside : ℕ → Range → Bool
-outside store range = ltb store (range .start + range .len)
+-- How long two stores are.
+abbrev pub lengthsOf : Stores → Lengths
+lengthsOf s = record { datagram = length (s .datagram); edits = length (s .edits) }
+
+-- One of the stores has over 70,000 bytes: TooLong (10).
+unfoldable pub tooLong : Lengths → Bool
+tooLong lengths = either (ltb maxStore (lengths .datagram)) (ltb maxStore (lengths .edits))
+
+-- How long the store is that a home names.
+abbrev pub lengthIn : Lengths → Home → ℕ
+lengthIn lengths home = chosen home (lengths .datagram) (lengths .edits)
+
+-- A range outside its own store: start + length, as whole numbers, is more; an empty range can be outside too.
+abbrev pub outside : Lengths → Range → Bool
+outside lengths range = ltb (lengthIn lengths (range .home)) (range .start + range .len)
 
 -- The numbers fall somewhere, the first of them from the number before.
 abbrev pub falling : ℕ → List OptionRecord → Bool
@@ -26,25 +41,25 @@ falling before (r ∷ rs) = either (ltb (r .number) before) (falling (r .number)
 abbrev pub misordered : Packet → Bool
 misordered p = either (ltb maxOptions (p .count)) (falling 0 (recordsOf p))
 
--- A value outside the store, or over 65804 bytes.
-abbrev pub badValue : ℕ → OptionRecord → Bool
-badValue store r = either (outside store (rangeOf r)) (ltb maxValue (r .len))
+-- A value outside its store, or over 65804 bytes.
+abbrev pub badValue : Lengths → OptionRecord → Bool
+badValue lengths r = either (outside lengths (rangeOf r)) (ltb maxValue (r .len))
 
 -- Some record has such a value.
-abbrev pub badValues : ℕ → List OptionRecord → Bool
-badValues store [] = false
-badValues store (r ∷ rs) = either (badValue store r) (badValues store rs)
+abbrev pub badValues : Lengths → List OptionRecord → Bool
+badValues lengths [] = false
+badValues lengths (r ∷ rs) = either (badValue lengths r) (badValues lengths rs)
 
--- A token or a payload outside the store, or a token over 15 bytes.
-abbrev pub badRanges : ℕ → Range → Range → Bool
-badRanges store token payload = either (outside store token) (either (outside store payload) (ltb maxToken (token .len)))
+-- A token or a payload outside its store, or a token over 15 bytes.
+abbrev pub badRanges : Lengths → Range → Range → Bool
+badRanges lengths token payload = either (outside lengths token) (either (outside lengths payload) (ltb maxToken (token .len)))
 
--- The causes of BadRecord (11): version over 3, over 128 records, numbers falling, a range outside the store, token over 15,
+-- The causes of BadRecord (11): version over 3, over 128 records, numbers falling, a range outside its store, token over 15,
 -- value over 65804.
-unfoldable pub badPacket : ℕ → Packet → Bool
-badPacket store p =
+unfoldable pub badPacket : Lengths → Packet → Bool
+badPacket lengths p =
     either (ltb 3 (p .header .version))
-    (either (misordered p) (either (badRanges store (p .token) (p .payload)) (badValues store (recordsOf p))))
+    (either (misordered p) (either (badRanges lengths (p .token) (p .payload)) (badValues lengths (recordsOf p))))
 
 -- How many extension bytes a delta or a length takes: none up to 12, one up to 268, else two.
 unfoldable pub extensionSize : ℕ → ℕ
@@ -65,5 +80,5 @@ judged (OptionsSize n) = given n
 judged BadRecord = refused 11
 
 -- The judgement: BadRecord (11), or the size of the options.
-unfoldable pub judging : ℕ → Packet → Answer ℕ
-judging store p = pick (badPacket store p) (refused 11) (given (optionsSize 0 (recordsOf p)))
+unfoldable pub judging : Lengths → Packet → Answer ℕ
+judging lengths p = pick (badPacket lengths p) (refused 11) (given (optionsSize 0 (recordsOf p)))

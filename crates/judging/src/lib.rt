@@ -1,17 +1,48 @@
 // The judgement of a packet before it is written, checked or edited: whether it has a bad record, what its options take,
 // and where the records of a number stand.
+use packet::Home;
 use packet::OptionRecord;
 use packet::Packet;
 use packet::Range;
 use packet::limits::MAX_OPTIONS;
+use packet::limits::MAX_STORE;
 use packet::limits::MAX_TOKEN;
 use packet::limits::MAX_VALUE;
 ghost use mathlib.Core.Path.{_≡_};
 ghost use Prim.Native.Nat.{_≤_};
 ghost use lib.Dec.{ltb};
 ghost use Rattle.ground.specs.Choice.{pick, either};
-ghost use Rattle.judging.specs.Judge.{outside, badValue, badRanges, extensionSize, optionSize, judged, judging};
+ghost use Rattle.packet.specs.Packet.{stores};
+ghost use Rattle.judging.specs.Judge.{lengthsOf, tooLong, lengthIn, outside, badValue, badRanges, extensionSize, optionSize, judged, judging};
 ghost use Rattle.judging.specs.Span.{spanIn};
+
+// How long the two stores are.
+pub struct Lengths {
+    pub datagram: usize,
+    pub edits: usize,
+}
+
+impl Lengths {
+    // Those of two stores that are lent.
+    pub fn of(datagram: &[u8], edits: &[u8]) -> Lengths
+        ensures { λ r. ⌜ r ≡ lengthsOf (stores (now (datagram .entry)) (now (edits .entry))) ⌝ }
+    {
+        Lengths {
+            datagram: datagram.len(),
+            edits: edits.len(),
+        }
+    }
+
+    // Whether one of the stores is longer than any that is taken.
+    pub fn too_long(self) -> bool
+        ensures { λ r. ⌜ r ≡ tooLong self ⌝ }
+    {
+        if MAX_STORE < self.datagram {
+            return true;
+        }
+        MAX_STORE < self.edits
+    }
+}
 
 // A packet is good, and its options take this many bytes; or it has a bad record.
 pub enum Judged {
@@ -19,9 +50,9 @@ pub enum Judged {
     BadRecord,
 }
 
-// Judges a packet over a store of the given length, and counts what its options take.
-pub fn judge(packet: Packet, store_len: usize) -> Judged
-    ensures { λ r. ⌜ judged r ≡ judging «store_len» packet ⌝ }
+// Judges a packet over stores of the given lengths, and counts what its options take.
+pub fn judge(packet: Packet, lengths: Lengths) -> Judged
+    ensures { λ r. ⌜ judged r ≡ judging lengths packet ⌝ }
 {
     let count = packet.count;
     // Taken out by itself: an index into the packet's own array would have the whole packet copied.
@@ -32,7 +63,7 @@ pub fn judge(packet: Packet, store_len: usize) -> Judged
     if MAX_OPTIONS < count {
         return Judged::BadRecord;
     }
-    if bad_ranges(store_len, packet.token, packet.payload) {
+    if bad_ranges(lengths, packet.token, packet.payload) {
         return Judged::BadRecord;
     }
     let mut before: u16 = 0;
@@ -40,7 +71,7 @@ pub fn judge(packet: Packet, store_len: usize) -> Judged
     let mut i = 0;
     while i < count {
         let option = options[i];
-        if bad_record(store_len, before, option) {
+        if bad_record(lengths, before, option) {
             return Judged::BadRecord;
         }
         size = size + size_after(before, option);
@@ -50,38 +81,49 @@ pub fn judge(packet: Packet, store_len: usize) -> Judged
     Judged::OptionsSize(size)
 }
 
-// Whether the token or the payload is outside the store, or the token too long for its four bits.
-fn bad_ranges(store_len: usize, token: Range, payload: Range) -> bool
-    ensures { λ r. ⌜ r ≡ badRanges «store_len» token payload ⌝ }
+// Whether the token or the payload is outside its store, or the token too long for its four bits.
+fn bad_ranges(lengths: Lengths, token: Range, payload: Range) -> bool
+    ensures { λ r. ⌜ r ≡ badRanges lengths token payload ⌝ }
 {
-    if outside(store_len, token) {
+    if outside(lengths, token) {
         return true;
     }
-    if outside(store_len, payload) {
+    if outside(lengths, payload) {
         return true;
     }
     MAX_TOKEN < token.len
 }
 
-// Whether a record's number falls from the one before, or its value is outside the store or too long for any length that
+// Whether a record's number falls from the one before, or its value is outside its store or too long for any length that
 // can be written.
-fn bad_record(store_len: usize, before: u16, option: OptionRecord) -> bool
-    ensures { λ r. ⌜ r ≡ either (ltb (option .number) before) (badValue «store_len» option) ⌝ }
+fn bad_record(lengths: Lengths, before: u16, option: OptionRecord) -> bool
+    ensures { λ r. ⌜ r ≡ either (ltb (option .number) before) (badValue lengths option) ⌝ }
 {
     if option.number < before {
         return true;
     }
-    if outside(store_len, option.range()) {
+    if outside(lengths, option.range()) {
         return true;
     }
     MAX_VALUE < option.len
 }
 
-// Whether a range ends past a store of the given length.
-fn outside(store_len: usize, range: Range) -> bool
-    ensures { λ r. ⌜ r ≡ outside «store_len» range ⌝ }
+// How long the store is that a home names.
+fn length_in(lengths: Lengths, home: Home) -> usize
+    ensures { λ r. ⌜ r ≡ lengthIn lengths home ⌝ }
 {
-    store_len < range.start as usize + range.len as usize
+    match home {
+        Home::Datagram => lengths.datagram,
+        Home::Edits => lengths.edits,
+    }
+}
+
+// Whether a range ends past its store.
+fn outside(lengths: Lengths, range: Range) -> bool
+    ensures { λ r. ⌜ r ≡ outside lengths range ⌝ }
+{
+    let home = range.home;
+    length_in(lengths, home) < range.start as usize + range.len as usize
 }
 
 // How many bytes an option takes after one of the number `before`.

@@ -8,11 +8,12 @@ use placing::put_bytes;
 use reading::Decoded;
 use refusal::Outcome;
 use refusal::Refusal;
-ghost use mathlib.Core.List.{_++_};
+ghost use mathlib.Core.List.{[], _++_};
 ghost use Rattle.refusal.specs.Answer.{outcome};
 ghost use Rattle.refusal.specs.Number.{numberOf};
 ghost use Rattle.class.specs.Class.{byteOf};
 ghost use Rattle.header.specs.Header.{numberOfType, codeOutput};
+ghost use Rattle.packet.specs.Packet.{stores};
 ghost use Rattle.packet.specs.Meaning.{meaning};
 ghost use Rattle.placing.specs.Put.{Puts};
 ghost use Rattle.lines.specs.Lines.{space, numbered, bytesLine, headLine, optionLine, optionLines, messageLines, refusalLine, linesOf};
@@ -65,29 +66,49 @@ fn put_option(out: &mut [u8], at: usize, number: u16, value: &[u8], end: u8) -> 
 }
 
 // Puts a line for each option.
-fn put_options(out: &mut [u8], at: usize, packet: Packet, store: &[u8], end: u8) -> usize
-    ensures { λ r. ⌜ Puts (now (out .entry)) at (optionLines end (meaning (now (store .entry)) packet .options)) r (now (out .exit)) ⌝ }
+fn put_options<'a>(
+    out: &mut [u8],
+    at: usize,
+    packet: Packet,
+    datagram: &'a [u8],
+    edits: &'a [u8],
+    end: u8,
+) -> usize
+    ensures { λ r. ⌜ Puts (now (out .entry)) at (optionLines end (meaning (stores (now (datagram .entry)) (now (edits .entry))) packet .options)) r (now (out .exit)) ⌝ }
 {
     let count = packet.option_count();
     let mut next = at;
     let mut i = 0;
     while i < count {
         let record = packet.options[i];
-        next = put_option(out, next, record.number, record.value(store), end);
+        next = put_option(out, next, record.number, record.value(datagram, edits), end);
         i = i + 1;
     }
     next
 }
 
 // Puts the lines of a message: its head, token, options and payload.
-pub fn put_message(out: &mut [u8], at: usize, packet: Packet, store: &[u8], end: u8) -> usize
-    ensures { λ r. ⌜ Puts (now (out .entry)) at (messageLines end (meaning (now (store .entry)) packet)) r (now (out .exit)) ⌝ }
+pub fn put_message<'a>(
+    out: &mut [u8],
+    at: usize,
+    packet: Packet,
+    datagram: &'a [u8],
+    edits: &'a [u8],
+    end: u8,
+) -> usize
+    ensures { λ r. ⌜ Puts (now (out .entry)) at (messageLines end (meaning (stores (now (datagram .entry)) (now (edits .entry))) packet)) r (now (out .exit)) ⌝ }
 {
     let header = packet.header;
     let next = put_header(out, at, header, end);
-    let next = put_bytes_line(out, next, b"token ", packet.get_token(store), end);
-    let next = put_options(out, next, packet, store, end);
-    put_bytes_line(out, next, b"payload ", packet.get_payload(store), end)
+    let next = put_bytes_line(out, next, b"token ", packet.get_token(datagram, edits), end);
+    let next = put_options(out, next, packet, datagram, edits, end);
+    put_bytes_line(
+        out,
+        next,
+        b"payload ",
+        packet.get_payload(datagram, edits),
+        end,
+    )
 }
 
 // Puts the line of a refusal: its number.
@@ -98,16 +119,17 @@ pub fn put_refusal(out: &mut [u8], at: usize, refusal: Refusal, end: u8) -> usiz
     put_byte(out, next, end)
 }
 
-// Puts what reading a datagram answers: the lines of the message, or the line of the refusal.
+// Puts what reading a datagram answers: the lines of the message, or the line of the refusal. A packet that was read needs no
+// edit store.
 pub fn put_decoded(out: &mut [u8], at: usize, decoded: Decoded, datagram: &[u8], end: u8) -> usize
-    ensures { λ r. ⌜ Puts (now (out .entry)) at (linesOf end (outcome (decoded .outcome)) (meaning (now (datagram .entry)) (decoded .packet))) r (now (out .exit)) ⌝ }
+    ensures { λ r. ⌜ Puts (now (out .entry)) at (linesOf end (outcome (decoded .outcome)) (meaning (stores (now (datagram .entry)) []) (decoded .packet))) r (now (out .exit)) ⌝ }
 {
     let outcome = decoded.outcome;
     match outcome {
         Outcome::Refused(refusal) => put_refusal(out, at, refusal, end),
         Outcome::Done => {
             let packet = decoded.packet;
-            put_message(out, at, packet, datagram, end)
+            put_message(out, at, packet, datagram, b"", end)
         }
     }
 }

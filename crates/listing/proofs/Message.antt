@@ -1,5 +1,6 @@
 -- The listing of a message's layout, from what strict reading answers to it.
 use mathlib.Core.Path.{ap}
+use mathlib.Core.List.{[]}
 use native.Mathlib.Omega.{arith}
 use lib.ListN.{length}
 use borrow.Author.Tests.{le-ltb}
@@ -12,4 +13,4 @@ pub listing-layout : ListsLayouts
 unfolding listing
 listing-layout m wf h =
     let r = reads-layout m wf (omega arith) in
-    rw (le-ltb 65535 (length (layout m)) h, r .is) (ap (messageLines newline) (r .means))
+    rw (le-ltb 65535 (length (layout m)) h, r .is) (ap (messageLines newline) (r .means []))

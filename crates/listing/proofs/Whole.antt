@@ -2,7 +2,7 @@
 use Prim.Native.Nat.{ℕ, _≤_}
 use mathlib.Core.Path.{_≡_, ap}
 use mathlib.Core.Bool.{true}
-use mathlib.Core.List.{List}
+use mathlib.Core.List.{List, []}
 use native.Mathlib.Omega.{arith}
 use lib.ListN.{length, take}
 use Rattle.rfc.specs.Message.{WellFormed, layout}
@@ -11,7 +11,7 @@ use Rattle.ground.proofs.Choice.{on-lt}
 use Rattle.refusal.specs.Answer.{Answer, given, refused, beside}
 use Rattle.packet.specs.Meaning.{meaning}
 use Rattle.packet.specs.declared.Packet.{Packet}
-use Rattle.packet.specs.Packet.{newPacket}
+use Rattle.packet.specs.Packet.{stores, newPacket}
 use Rattle.reading.specs.Reading.{reading}
 use Rattle.refusal.proofs.Answers.{Given}
 use Rattle.reading.proofs.Accept.{accepted}
@@ -23,8 +23,10 @@ use Rattle.lines.proofs.Size.{message-size, refusal-line-size}
 use Rattle.listing.specs.Listing.{newline, answer, listing}
 
 -- The lines of an answer to a datagram of at most 65,535 bytes.
-answer-size : (s : List ℕ) → length s ≤ 65535 → (a : Answer Packet) → Given (λ (p : Packet). WellFormed (meaning s p) × (layout (meaning s p) ≡ s)) a → length (answer s (beside newPacket a)) ≤ 135000
-answer-size s h (given p) g = omega (arith, message-size newline (meaning s p), g .0 .count, ap length (g .1))
+answer-size : (s : List ℕ) → length s ≤ 65535 → (a : Answer Packet)
+    → Given (λ (p : Packet). (edits : List ℕ) → WellFormed (meaning (stores s edits) p) × (layout (meaning (stores s edits) p) ≡ s)) a
+    → length (answer s (beside newPacket a)) ≤ 135000
+answer-size s h (given p) g = omega (arith, message-size newline (meaning (stores s []) p), g [] .0 .count, ap length (g [] .1))
 answer-size s h (refused k) g = omega (arith, refusal-line-size newline k)
 
 pub listing-size : (s : List ℕ) → Bytes s → length (listing s) ≤ 135000

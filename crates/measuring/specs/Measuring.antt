@@ -7,11 +7,12 @@ use Rattle.refusal.specs.Answer.{Answer, given, refused, onward}
 use Rattle.class.specs.Class.{byteOf}
 use Rattle.class.specs.declared.MessageClass.{MessageClass}
 use Rattle.class.specs.declared.MessageClass.the-variants.{Empty, Request, Response, Reserved}
-use Rattle.packet.specs.Limits.{maxSize, maxStore}
+use Rattle.packet.specs.Limits.{maxSize}
 use Rattle.packet.specs.Packet.{nowhere, recordsOf}
 use Rattle.packet.specs.declared.Packet.{Packet}
 use Rattle.packet.specs.declared.Range.{Range}
-use Rattle.judging.specs.Judge.{badPacket, optionsSize}
+use Rattle.judging.specs.Judge.{tooLong, badPacket, optionsSize}
+use Rattle.judging.specs.declared.Lengths.{Lengths}
 use Rattle.measuring.specs.declared.Limit.{Limit}
 use Rattle.measuring.specs.declared.Limit.the-variants.{Default, Given, Unlimited}
 
@@ -70,7 +71,7 @@ sizeFitted room size = pick (ltb room size) (refused 12) (given size)
 abbrev pub sized : Bool → Limit → ℕ → Packet → Answer ℕ
 sized strict limit room p = onward (strictly strict p) (λ _. limited limit (counted strict p) (sizeFitted room (writtenSize strict p)))
 
--- A packet over a store of this length, for an output with this much room: a store over 70,000 bytes gives 10, a bad packet 11.
-unfoldable pub measured : Bool → Limit → ℕ → ℕ → Packet → Answer ℕ
-measured strict limit room store p =
-    pick (ltb maxStore store) (refused 10) (pick (badPacket store p) (refused 11) (sized strict limit room p))
+-- A packet over stores of these lengths, for an output with this much room: a store over 70,000 bytes gives 10, a bad packet 11.
+unfoldable pub measured : Bool → Limit → ℕ → Lengths → Packet → Answer ℕ
+measured strict limit room lengths p =
+    pick (tooLong lengths) (refused 10) (pick (badPacket lengths p) (refused 11) (sized strict limit room p))

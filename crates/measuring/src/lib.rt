@@ -1,10 +1,10 @@
 // What a packet answers when it is written, plain and strict, before a byte is: the refusals, or how many bytes it takes.
 use class::MessageClass;
 use judging::Judged;
+use judging::Lengths;
 use judging::judge;
 use packet::Packet;
 use packet::Range;
-use packet::limits::MAX_STORE;
 use refusal::Outcome;
 use refusal::Refusal;
 use refusal::Written;
@@ -24,20 +24,20 @@ pub enum Limit {
     Unlimited,
 }
 
-// The answer of writing the packet over a store of the given length into an output with this much room.
+// The answer of writing the packet over stores of the given lengths into an output with this much room.
 pub fn measured(
     strict: bool,
     limit: Limit,
     packet: Packet,
-    store_len: usize,
+    lengths: Lengths,
     room: usize,
 ) -> Written
-    ensures { λ r. ⌜ written r ≡ measured strict limit room «store_len» packet ⌝ }
+    ensures { λ r. ⌜ written r ≡ measured strict limit room lengths packet ⌝ }
 {
-    if MAX_STORE < store_len {
+    if lengths.too_long() {
         return Written::Refused(Refusal::TooLong);
     }
-    match judge(packet, store_len) {
+    match judge(packet, lengths) {
         Judged::BadRecord => Written::Refused(Refusal::BadRecord),
         Judged::OptionsSize(options) => match judged_strictly(strict, packet) {
             Outcome::Refused(e) => Written::Refused(e),
@@ -110,7 +110,7 @@ pub fn sent_payload(strict: bool, code: MessageClass, payload: Range) -> Range
         return payload;
     }
     match code {
-        MessageClass::Empty => Range { start: 0, len: 0 },
+        MessageClass::Empty => Range::NOWHERE,
         _ => payload,
     }
 }

@@ -7,6 +7,7 @@ use lib.Dec.{ltb, leb, eqb}
 use Rattle.ground.specs.Choice.{pick}
 use Rattle.refusal.specs.Answer.{Answer, given, refused, onward}
 use Rattle.packet.specs.Limits.{maxStore, maxNumber}
+use Rattle.packet.specs.declared.Home.the-variants.{Datagram}
 use Rattle.packet.specs.declared.OptionRecord.{OptionRecord}
 
 -- A number that was read, and the position after it.
@@ -34,12 +35,12 @@ pub data Place : Type 0 where
   ended : Bool → ℕ → Place
   option : OptionRecord → Place
 
--- An option whose value starts at a position: a number over 65535 gives 3, then a value past the end 4.
+-- An option whose value starts at a position of the datagram: a number over 65535 gives 3, then a value past the end 4.
 unfoldable pub valueAt : List ℕ → ℕ → ℕ → ℕ → Answer Place
 valueAt s number start len =
     pick (ltb maxNumber number) (refused 3)
     (pick (ltb (length s - start) len) (refused 4)
-    (given (option (record { number = number; spare = 0; start = start; len = len }))))
+    (given (option (record { number = number; home = Datagram; spare = 0; start = start; len = len }))))
 
 -- An option whose length is a nibble with its extension at a position, at most `longest`; then its value.
 unfoldable pub lengthAt : ℕ → List ℕ → ℕ → ℕ → ℕ → Answer Place

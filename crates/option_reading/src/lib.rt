@@ -1,4 +1,5 @@
 // Reading one option of a datagram: nibbles, extensions, the value, the order of refusals (the loop of packet.rs's from_bytes).
+use packet::Home;
 use packet::OptionRecord;
 use packet::limits::MAX_NUMBER;
 use packet::limits::MAX_STORE;
@@ -86,6 +87,7 @@ fn value_at(buf: &[u8], number: usize, start: usize, len: usize) -> Found
     }
     Found::Option(OptionRecord {
         number: number as u16,
+        home: Home::Datagram,
         spare: 0,
         start: start as u32,
         len: len as u32,

@@ -1,24 +1,45 @@
-// A packet: a header, and the token, option values and payload as ranges of one lent store of bytes (packet.rs).
+// A packet: a header, and the token, option values and payload as ranges of two lent stores of bytes, the datagram and the
+// edit store (packet.rs).
 use header::Header;
 use limits::MAX_OPTIONS;
 ghost use mathlib.Core.Path.{_≡_};
 ghost use lib.ListN.{length, getD};
 ghost use lib.Dec.{ltb};
-ghost use Rattle.packet.specs.Packet.{newPacket, none, bytesOf, placeOf, rangeOf, valueOf, recordsOf, ofNumber, numberAt};
+ghost use Rattle.packet.specs.Packet.{newPacket, none, chosen, stores, bytesIn, placeIn, bytesOf, placeOf, rangeOf, valueOf, recordsOf, ofNumber, numberAt};
 
 pub mod limits;
 
-// A range of the store.
+// The store that a range lies in.
+pub enum Home {
+    Datagram,
+    Edits,
+}
+
+impl Home {
+    // The store that the home names.
+    fn store<'a>(self, datagram: &'a [u8], edits: &'a [u8]) -> &'a [u8]
+        ensures { λ r. ⌜ r ≡ chosen self (datagram .entry) (edits .entry) ⌝ }
+    {
+        match self {
+            Home::Datagram => datagram,
+            Home::Edits => edits,
+        }
+    }
+}
+
+// A range of the store that it names.
 pub struct Range {
+    pub home: Home,
     pub start: u32,
     pub len: u32,
 }
 
-// An option: its number, and its value as a range of the store. The spare field fills the record to three words, so that
-// an array of records is cleared and copied in one go; it is 0 in every record that is made here.
+// An option: its number, and its value as a range. The spare field fills the record to three words, so that an array of
+// records is cleared and copied in one go; it is 0 in every record that is made here.
 pub struct OptionRecord {
     pub number: u16,
-    pub spare: u16,
+    pub home: Home,
+    pub spare: u8,
     pub start: u32,
     pub len: u32,
 }
@@ -35,6 +56,7 @@ impl OptionRecord {
     // The record of no option: what stands in the array past the count.
     pub const EMPTY: OptionRecord = OptionRecord {
         number: 0,
+        home: Home::Datagram,
         spare: 0,
         start: 0,
         len: 0,
@@ -42,18 +64,35 @@ impl OptionRecord {
 }
 
 impl Range {
-    // The bytes that the range names, as a part of the store; none where it is not inside the store.
-    pub fn part<'a>(self, store: &'a [u8]) -> &'a [u8]
-        ensures { λ r. ⌜ now r ≡ bytesOf (now (store .entry)) self ⌝ }
-        ensures { λ r. ⌜ r .ptr ≡ placeOf (store .entry .ptr) (length (now (store .entry))) self ⌝ }
+    // The range of no bytes.
+    pub const NOWHERE: Range = Range {
+        home: Home::Datagram,
+        start: 0,
+        len: 0,
+    };
+
+    // The bytes that the range names, as a part of the store that it lies in; none where it is not inside that store.
+    pub fn part<'a>(self, datagram: &'a [u8], edits: &'a [u8]) -> &'a [u8]
+        ensures { λ r. ⌜ now r ≡ bytesOf (stores (now (datagram .entry)) (now (edits .entry))) self ⌝ }
+        ensures { λ r. ⌜ r .ptr ≡ placeOf (datagram .entry .ptr) (edits .entry .ptr) (stores (now (datagram .entry)) (now (edits .entry))) self ⌝ }
     {
-        let start = self.start as usize;
-        let end = start + self.len as usize;
-        if store.len() < end {
-            return &store[0..0];
-        }
-        &store[start..end]
+        let home = self.home;
+        let store = home.store(datagram, edits);
+        part_in(store, self.start, self.len)
     }
+}
+
+// So many bytes from a start in one store; none where they are not inside it.
+fn part_in(store: &[u8], start: u32, len: u32) -> &[u8]
+    ensures { λ r. ⌜ now r ≡ bytesIn (now (store .entry)) start len ⌝ }
+    ensures { λ r. ⌜ r .ptr ≡ placeIn (store .entry .ptr) (length (now (store .entry))) start len ⌝ }
+{
+    let first = start as usize;
+    let end = first + len as usize;
+    if store.len() < end {
+        return &store[0..0];
+    }
+    &store[first..end]
 }
 
 impl OptionRecord {
@@ -61,19 +100,21 @@ impl OptionRecord {
     pub fn range(self) -> Range
         ensures { λ r. ⌜ r ≡ rangeOf self ⌝ }
     {
+        let home = self.home;
         Range {
+            home,
             start: self.start,
             len: self.len,
         }
     }
 
-    // The option's value, as a part of the store.
-    pub fn value<'a>(self, store: &'a [u8]) -> &'a [u8]
-        ensures { λ r. ⌜ now r ≡ valueOf (now (store .entry)) self ⌝ }
-        ensures { λ r. ⌜ r .ptr ≡ placeOf (store .entry .ptr) (length (now (store .entry))) (rangeOf self) ⌝ }
+    // The option's value, as a part of its store.
+    pub fn value<'a>(self, datagram: &'a [u8], edits: &'a [u8]) -> &'a [u8]
+        ensures { λ r. ⌜ now r ≡ valueOf (stores (now (datagram .entry)) (now (edits .entry))) self ⌝ }
+        ensures { λ r. ⌜ r .ptr ≡ placeOf (datagram .entry .ptr) (edits .entry .ptr) (stores (now (datagram .entry)) (now (edits .entry))) (rangeOf self) ⌝ }
     {
         let range = self.range();
-        range.part(store)
+        range.part(datagram, edits)
     }
 }
 
@@ -93,29 +134,29 @@ impl Packet {
     {
         Packet {
             header: Header::new(),
-            token: Range { start: 0, len: 0 },
+            token: Range::NOWHERE,
             count: 0,
             options: [OptionRecord::EMPTY; MAX_OPTIONS],
-            payload: Range { start: 0, len: 0 },
+            payload: Range::NOWHERE,
         }
     }
 
-    // The token, as a part of the store.
-    pub fn get_token<'a>(self, store: &'a [u8]) -> &'a [u8]
-        ensures { λ r. ⌜ now r ≡ bytesOf (now (store .entry)) (self .token) ⌝ }
-        ensures { λ r. ⌜ r .ptr ≡ placeOf (store .entry .ptr) (length (now (store .entry))) (self .token) ⌝ }
+    // The token, as a part of its store.
+    pub fn get_token<'a>(self, datagram: &'a [u8], edits: &'a [u8]) -> &'a [u8]
+        ensures { λ r. ⌜ now r ≡ bytesOf (stores (now (datagram .entry)) (now (edits .entry))) (self .token) ⌝ }
+        ensures { λ r. ⌜ r .ptr ≡ placeOf (datagram .entry .ptr) (edits .entry .ptr) (stores (now (datagram .entry)) (now (edits .entry))) (self .token) ⌝ }
     {
         let token = self.token;
-        token.part(store)
+        token.part(datagram, edits)
     }
 
-    // The payload, as a part of the store.
-    pub fn get_payload<'a>(self, store: &'a [u8]) -> &'a [u8]
-        ensures { λ r. ⌜ now r ≡ bytesOf (now (store .entry)) (self .payload) ⌝ }
-        ensures { λ r. ⌜ r .ptr ≡ placeOf (store .entry .ptr) (length (now (store .entry))) (self .payload) ⌝ }
+    // The payload, as a part of its store.
+    pub fn get_payload<'a>(self, datagram: &'a [u8], edits: &'a [u8]) -> &'a [u8]
+        ensures { λ r. ⌜ now r ≡ bytesOf (stores (now (datagram .entry)) (now (edits .entry))) (self .payload) ⌝ }
+        ensures { λ r. ⌜ r .ptr ≡ placeOf (datagram .entry .ptr) (edits .entry .ptr) (stores (now (datagram .entry)) (now (edits .entry))) (self .payload) ⌝ }
     {
         let payload = self.payload;
-        payload.part(store)
+        payload.part(datagram, edits)
     }
 
     // How many options there are; a count over 128 reads as 128.
@@ -151,13 +192,13 @@ impl Packet {
         NumberAt::Number(record.number)
     }
 
-    // The value of the option at an index, as a part of the store.
-    pub fn option_value<'a>(self, store: &'a [u8], n: usize) -> &'a [u8]
-        ensures { λ r. ⌜ now r ≡ valueOf (now (store .entry)) (getD (recordsOf self) n none) ⌝ }
-        ensures { λ r. ⌜ r .ptr ≡ placeOf (store .entry .ptr) (length (now (store .entry))) (rangeOf (getD (recordsOf self) n none)) ⌝ }
+    // The value of the option at an index, as a part of its store.
+    pub fn option_value<'a>(self, datagram: &'a [u8], edits: &'a [u8], n: usize) -> &'a [u8]
+        ensures { λ r. ⌜ now r ≡ valueOf (stores (now (datagram .entry)) (now (edits .entry))) (getD (recordsOf self) n none) ⌝ }
+        ensures { λ r. ⌜ r .ptr ≡ placeOf (datagram .entry .ptr) (edits .entry .ptr) (stores (now (datagram .entry)) (now (edits .entry))) (rangeOf (getD (recordsOf self) n none)) ⌝ }
     {
         let record = self.record_at(n);
-        record.value(store)
+        record.value(datagram, edits)
     }
 
     // How many options have the number.
@@ -206,20 +247,26 @@ impl Packet {
         OptionRecord::EMPTY
     }
 
-    // The n-th value of a number, counted from 0, as a part of the store.
-    pub fn get_option<'a>(self, store: &'a [u8], number: u16, n: usize) -> &'a [u8]
-        ensures { λ r. ⌜ now r ≡ valueOf (now (store .entry)) (getD (ofNumber number (recordsOf self)) n none) ⌝ }
-        ensures { λ r. ⌜ r .ptr ≡ placeOf (store .entry .ptr) (length (now (store .entry))) (rangeOf (getD (ofNumber number (recordsOf self)) n none)) ⌝ }
+    // The n-th value of a number, counted from 0, as a part of its store.
+    pub fn get_option<'a>(
+        self,
+        datagram: &'a [u8],
+        edits: &'a [u8],
+        number: u16,
+        n: usize,
+    ) -> &'a [u8]
+        ensures { λ r. ⌜ now r ≡ valueOf (stores (now (datagram .entry)) (now (edits .entry))) (getD (ofNumber number (recordsOf self)) n none) ⌝ }
+        ensures { λ r. ⌜ r .ptr ≡ placeOf (datagram .entry .ptr) (edits .entry .ptr) (stores (now (datagram .entry)) (now (edits .entry))) (rangeOf (getD (ofNumber number (recordsOf self)) n none)) ⌝ }
     {
         let record = self.record_of(number, n);
-        record.value(store)
+        record.value(datagram, edits)
     }
 
-    // The first value of a number, as a part of the store.
-    pub fn get_first_option<'a>(self, store: &'a [u8], number: u16) -> &'a [u8]
-        ensures { λ r. ⌜ now r ≡ valueOf (now (store .entry)) (getD (ofNumber number (recordsOf self)) 0 none) ⌝ }
-        ensures { λ r. ⌜ r .ptr ≡ placeOf (store .entry .ptr) (length (now (store .entry))) (rangeOf (getD (ofNumber number (recordsOf self)) 0 none)) ⌝ }
+    // The first value of a number, as a part of its store.
+    pub fn get_first_option<'a>(self, datagram: &'a [u8], edits: &'a [u8], number: u16) -> &'a [u8]
+        ensures { λ r. ⌜ now r ≡ valueOf (stores (now (datagram .entry)) (now (edits .entry))) (getD (ofNumber number (recordsOf self)) 0 none) ⌝ }
+        ensures { λ r. ⌜ r .ptr ≡ placeOf (datagram .entry .ptr) (edits .entry .ptr) (stores (now (datagram .entry)) (now (edits .entry))) (rangeOf (getD (ofNumber number (recordsOf self)) 0 none)) ⌝ }
     {
-        self.get_option(store, number, 0)
+        self.get_option(datagram, edits, number, 0)
     }
 }

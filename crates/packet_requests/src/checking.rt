@@ -1,6 +1,7 @@
 // The request to check a packet by the register.
 use packet::Packet;
 use packet::limits::MAX_OPTIONS;
+use packet_words::EDITS;
 use packet_words::packet_at;
 use placing::put_byte;
 use refusal::Refusal;
@@ -16,16 +17,22 @@ use words::part;
 pub fn answer(line: &[u8], at: usize, store: &mut [u8], room: &mut [u8]) -> Told {
     let parts = packet_at(line, at, store);
     let packet = parts.packet;
+    let ends = parts.ends;
     if !finished(line, parts.next) {
         return Told::no_request();
     }
-    check(packet, part(store, 0, parts.used), room)
+    check(
+        packet,
+        part(store, 0, ends.datagram),
+        part(store, EDITS, ends.edits),
+        room,
+    )
 }
 
 // What the register's check of a packet answers. The letters of its records go to the room.
-pub fn check(packet: Packet, store: &[u8], room: &mut [u8]) -> Told {
+pub fn check(packet: Packet, datagram: &[u8], edits: &[u8], room: &mut [u8]) -> Told {
     let count = packet.option_count();
-    let checked = register::check(packet, store);
+    let checked = register::check(packet, datagram, edits);
     let outcome = checked.outcome;
     let kept = checked.kept;
     match outcome {

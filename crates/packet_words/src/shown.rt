@@ -44,28 +44,41 @@ impl Reply {
         }
     }
 
-    // Puts the answer. What comes of a store or of a writer's output is taken from there.
+    // Puts the answer. What comes of a store or of a writer's output is taken from there: a packet that is shown was read, and has
+    // every byte in the store.
     pub fn put(self, out: &mut [u8], place: usize, store: &[u8], output: &[u8]) -> usize {
         let told = self.told;
         let packet = self.packet;
         let next = told.put(out, place, store, output);
         if self.shown {
-            return put_parts(out, next, packet, store);
+            return put_parts(out, next, packet, store, store);
         }
         next
     }
 }
 
 // Puts a packet's token, options and payload.
-pub fn put_parts(out: &mut [u8], place: usize, packet: Packet, store: &[u8]) -> usize {
-    let next = put_value(out, place, packet.get_token(store));
+pub fn put_parts<'a>(
+    out: &mut [u8],
+    place: usize,
+    packet: Packet,
+    datagram: &'a [u8],
+    edits: &'a [u8],
+) -> usize {
+    let next = put_value(out, place, packet.get_token(datagram, edits));
     let next = put_byte(out, next, b' ');
-    let next = put_options(out, next, packet, store);
-    put_value(out, next, packet.get_payload(store))
+    let next = put_options(out, next, packet, datagram, edits);
+    put_value(out, next, packet.get_payload(datagram, edits))
 }
 
 // Puts the options. Raw ones can have one long value again and again, so the output is spilled on the way.
-fn put_options(out: &mut [u8], place: usize, packet: Packet, store: &[u8]) -> usize {
+fn put_options<'a>(
+    out: &mut [u8],
+    place: usize,
+    packet: Packet,
+    datagram: &'a [u8],
+    edits: &'a [u8],
+) -> usize {
     let count = packet.option_count();
     if count == 0 {
         return put_byte(out, place, b'-');
@@ -78,7 +91,7 @@ fn put_options(out: &mut [u8], place: usize, packet: Packet, store: &[u8]) -> us
             out,
             next,
             packet.option_number(i),
-            packet.option_value(store, i),
+            packet.option_value(datagram, edits, i),
         );
         i = i + 1;
     }

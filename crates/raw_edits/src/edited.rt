@@ -4,6 +4,8 @@ use crate::reply::Reply;
 use edit_scripts::Script;
 use edit_scripts::played;
 use packet::Packet;
+use packet_words::EDITS;
+use packet_words::Ends;
 use raw_words::raw_at;
 use refusal::Outcome;
 use telling::RAW;
@@ -23,7 +25,7 @@ pub fn get(line: &[u8], at: usize, store: &mut [u8]) -> Reply {
     if !finished(line, raw.next) {
         return Reply::of(Told::no_request());
     }
-    Reply::showing(Told::nothing(), More::Getters(asked), packet, raw.length)
+    Reply::showing(Told::nothing(), More::Getters(asked), packet, raw.ends)
 }
 
 // Where the numbers stand that are asked for; NOWHERE where a dash says that there are none.
@@ -47,26 +49,27 @@ fn past_asked(line: &[u8], at: usize) -> usize {
 pub fn edit(line: &[u8], at: usize, store: &mut [u8]) -> Reply {
     let raw = raw_at(line, at, store);
     let packet = raw.packet;
-    let length = raw.length;
-    let start = Script::start(packet, Outcome::Done, length, raw.next);
-    if store.len() < length {
+    let ends = raw.ends;
+    let start = Script::start(packet, Outcome::Done, 0, raw.next);
+    let end = ends.edits;
+    if end < EDITS || store.len() < end {
         return Reply::of(Told::no_request());
     }
-    let script = played(true, start, line, &mut store[0..length]);
-    tell(script, line, length)
+    let script = played(true, start, line, &mut store[EDITS..end]);
+    tell(script, line, ends)
 }
 
 // The packet as the steps left it, after the refusal that ended them if there is one.
-fn tell(script: Script, line: &[u8], length: usize) -> Reply {
+fn tell(script: Script, line: &[u8], ends: Ends) -> Reply {
     let packet = script.packet;
     if 0 < script.refused {
         let told = head(packet, REFUSED, script.refused);
-        return Reply::showing(told, More::Raw, packet, length);
+        return Reply::showing(told, More::Raw, packet, ends);
     }
     if !finished(line, script.next) {
         return Reply::of(Told::no_request());
     }
-    Reply::showing(head(packet, RAW, 0), More::Raw, packet, length)
+    Reply::showing(head(packet, RAW, 0), More::Raw, packet, ends)
 }
 
 // The header of a packet, after a word and the number of a refusal, if that is not 0.

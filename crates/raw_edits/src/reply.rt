@@ -1,6 +1,8 @@
 // Answers to requests on raw packets.
 use getter_words::put_getters;
 use packet::Packet;
+use packet_words::EDITS;
+use packet_words::Ends;
 use raw_words::put_raw;
 use telling::Told;
 use words::part;
@@ -14,12 +16,12 @@ pub enum More {
     Getters(usize),
 }
 
-// An answer, and a packet that may come after it, over so many bytes of the store.
+// An answer, and a packet that may come after it, over stores that end so.
 pub struct Reply {
     told: Told,
     more: More,
     packet: Packet,
-    length: usize,
+    ends: Ends,
 }
 
 impl Reply {
@@ -29,17 +31,20 @@ impl Reply {
             told,
             more: More::Nothing,
             packet: Packet::new(),
-            length: 0,
+            ends: Ends {
+                datagram: 0,
+                edits: EDITS,
+            },
         }
     }
 
     // An answer that shows a packet.
-    pub fn showing(told: Told, more: More, packet: Packet, length: usize) -> Reply {
+    pub fn showing(told: Told, more: More, packet: Packet, ends: Ends) -> Reply {
         Reply {
             told,
             more,
             packet,
-            length,
+            ends,
         }
     }
 
@@ -49,21 +54,31 @@ impl Reply {
         let more = self.more;
         let packet = self.packet;
         let next = told.put(out, place, store, store);
-        put_more(out, next, more, line, packet, part(store, 0, self.length))
+        let ends = self.ends;
+        put_more(
+            out,
+            next,
+            more,
+            line,
+            packet,
+            part(store, 0, ends.datagram),
+            part(store, EDITS, ends.edits),
+        )
     }
 }
 
-fn put_more(
+fn put_more<'a>(
     out: &mut [u8],
     place: usize,
     more: More,
     line: &[u8],
     packet: Packet,
-    store: &[u8],
+    datagram: &'a [u8],
+    edits: &'a [u8],
 ) -> usize {
     match more {
         More::Nothing => place,
-        More::Raw => put_raw(out, place, packet, store),
-        More::Getters(asked) => put_getters(out, place, line, asked, packet, store),
+        More::Raw => put_raw(out, place, packet, datagram, edits),
+        More::Getters(asked) => put_getters(out, place, line, asked, packet, datagram, edits),
     }
 }

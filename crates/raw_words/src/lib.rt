@@ -1,4 +1,4 @@
-// Raw packets as words, both ways: a store, and ranges that need not be inside it.
+// Raw packets as words, both ways: two stores, and ranges that need not be inside them.
 mod read;
 mod shown;
 
@@ -7,3 +7,4 @@ pub use read::Raw;
 pub use read::range_at;
 pub use read::raw_at;
 pub use shown::put_raw;
+pub use shown::put_records;

@@ -3,6 +3,11 @@ use class_words::header_at;
 use packet::OptionRecord;
 use packet::Packet;
 use packet::Range;
+use packet_words::EDITS;
+use packet_words::Ends;
+use packet_words::home_at;
+use packet_words::record;
+use packet_words::where_fits;
 use words::NOWHERE;
 use words::after;
 use words::byte_at;
@@ -17,12 +22,15 @@ pub struct Ranged {
     pub next: usize,
 }
 
-// Reads START+LENGTH.
+// Reads START+LENGTH, with the mark of its store before it.
 pub fn range_at(line: &[u8], at: usize, before: u8) -> Ranged {
-    let start = number_at(line, at, before, 4294967295);
+    let named = home_at(line, at, before);
+    let home = named.home;
+    let start = number_at(line, named.at, named.before, 4294967295);
     let len = number_at(line, start.next, b'+', 4294967295);
     Ranged {
         range: Range {
+            home,
             start: low32(start.value),
             len: low32(len.value),
         },
@@ -30,10 +38,10 @@ pub fn range_at(line: &[u8], at: usize, before: u8) -> Ranged {
     }
 }
 
-// A raw packet, how many bytes its store has, and where its last word ends.
+// A raw packet, where its two stores end, and where its last word ends.
 pub struct Raw {
     pub packet: Packet,
-    pub length: usize,
+    pub ends: Ends,
     pub next: usize,
 }
 
@@ -41,8 +49,13 @@ pub struct Raw {
 pub fn raw_at(line: &[u8], at: usize, store: &mut [u8]) -> Raw {
     let head = header_at(line, at);
     let header = head.header;
-    let lent = bytes_at(line, head.next, b' ', store, 0);
-    let token = range_at(line, lent.next, b' ');
+    let datagram = bytes_at(line, head.next, b' ', store, 0);
+    let edits = bytes_at(line, datagram.next, b' ', store, EDITS);
+    let ends = Ends {
+        datagram: datagram.end,
+        edits: edits.end,
+    };
+    let token = range_at(line, edits.next, b' ');
     let token_range = token.range;
     let list = records_at(line, token.next);
     let options = list.records;
@@ -57,8 +70,8 @@ pub fn raw_at(line: &[u8], at: usize, store: &mut [u8]) -> Raw {
             options,
             payload: payload_range,
         },
-        length: lent.end,
-        next: payload.next,
+        ends,
+        next: where_fits(ends, payload.next),
     }
 }
 
@@ -68,7 +81,7 @@ struct Records {
     next: usize,
 }
 
-// Reads a list of records, NUMBER@START+LENGTH with commas between, of which there are at most 128.
+// Reads a list of records, NUMBER@RANGE with commas between, of which there are at most 128.
 fn records_at(line: &[u8], at: usize) -> Records {
     let mut records = [OptionRecord::EMPTY; 128];
     let start = after(line, at, b' ');
@@ -84,13 +97,7 @@ fn records_at(line: &[u8], at: usize) -> Records {
     while i < 128 {
         let number = number_at(line, next, before, 65535);
         let value = range_at(line, number.next, b'@');
-        let range = value.range;
-        records[i] = OptionRecord {
-            number: low16(number.value),
-            spare: 0,
-            start: range.start,
-            len: range.len,
-        };
+        records[i] = record(low16(number.value), value.range);
         next = value.next;
         before = b',';
         i = i + 1;

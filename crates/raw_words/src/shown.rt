@@ -1,18 +1,27 @@
 // Raw packets as words of an answer.
 use decimal::put_decimal;
 use lines::put_number;
+use packet::Home;
 use packet::OptionRecord;
 use packet::Packet;
 use packet::Range;
 use packet_words::put_separator;
 use placing::put_byte;
+use placing::put_bytes;
 use telling::put_value;
 
-// Puts what comes after a raw packet's header: its store, token, records, count and payload.
-pub fn put_raw(out: &mut [u8], place: usize, packet: Packet, store: &[u8]) -> usize {
+// Puts what comes after a raw packet's header: its stores, token, records, count and payload.
+pub fn put_raw(
+    out: &mut [u8],
+    place: usize,
+    packet: Packet,
+    datagram: &[u8],
+    edits: &[u8],
+) -> usize {
     let token = packet.token;
     let payload = packet.payload;
-    let next = put_store(out, place, store);
+    let next = put_store(out, place, datagram);
+    let next = put_store(out, next, edits);
     let next = put_range(out, next, b' ', token);
     let next = put_byte(out, next, b' ');
     let next = put_records(out, next, packet);
@@ -39,14 +48,24 @@ fn are_zeros(bytes: &[u8]) -> bool {
 }
 
 fn put_range(out: &mut [u8], place: usize, before: u8, range: Range) -> usize {
+    let home = range.home;
     let next = put_byte(out, place, before);
+    let next = put_home(out, next, home);
     let next = put_decimal(out, next, range.start as u64);
     let next = put_byte(out, next, b'+');
     put_decimal(out, next, range.len as u64)
 }
 
+// Puts the mark of a range in the edit store.
+fn put_home(out: &mut [u8], place: usize, home: Home) -> usize {
+    match home {
+        Home::Datagram => place,
+        Home::Edits => put_bytes(out, place, b"e:"),
+    }
+}
+
 // Puts the records up to the last that is not empty.
-fn put_records(out: &mut [u8], place: usize, packet: Packet) -> usize {
+pub fn put_records(out: &mut [u8], place: usize, packet: Packet) -> usize {
     let options = packet.options;
     let count = filled_of(packet);
     if count == 0 {
@@ -67,11 +86,16 @@ fn put_records(out: &mut [u8], place: usize, packet: Packet) -> usize {
 
 fn put_record(out: &mut [u8], place: usize, record: OptionRecord) -> usize {
     let next = put_decimal(out, place, record.number as u64);
-    let range = Range {
-        start: record.start,
-        len: record.len,
-    };
-    put_range(out, next, b'@', range)
+    put_range(out, next, b'@', record.range())
+}
+
+// Whether a record is the empty one.
+fn is_empty(record: OptionRecord) -> bool {
+    let home = record.home;
+    match home {
+        Home::Datagram => record.number == 0 && record.start == 0 && record.len == 0,
+        Home::Edits => false,
+    }
 }
 
 // How many records there are up to the last that is not empty.
@@ -82,7 +106,7 @@ fn filled_of(packet: Packet) -> usize {
     while i < 128 {
         let record = options[i];
         i = i + 1;
-        if record.number != 0 || record.start != 0 || record.len != 0 {
+        if !is_empty(record) {
             count = i;
         }
     }

@@ -2,6 +2,7 @@
 mod written;
 
 use packet_requests::check;
+use packet_words::EDITS;
 use raw_words::raw_at;
 use telling::Told;
 use words::Named;
@@ -31,8 +32,14 @@ pub fn answer(name: Named, line: &[u8], store: &mut [u8], room: &mut [u8]) -> To
 fn register(line: &[u8], at: usize, store: &mut [u8], room: &mut [u8]) -> Told {
     let raw = raw_at(line, at, store);
     let packet = raw.packet;
+    let ends = raw.ends;
     if !finished(line, raw.next) {
         return Told::no_request();
     }
-    check(packet, part(store, 0, raw.length), room)
+    check(
+        packet,
+        part(store, 0, ends.datagram),
+        part(store, EDITS, ends.edits),
+        room,
+    )
 }

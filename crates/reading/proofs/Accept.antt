@@ -18,12 +18,12 @@ use Rattle.header.specs.Header.{headerOf, versionOf, tokenOf}
 use Rattle.header.specs.declared.HeaderRaw.{HeaderRaw}
 use Rattle.class.proofs.Class.{byte-back}
 use Rattle.header.proofs.Raw.{bytes-back, number-back}
-use Rattle.packet.specs.Packet.{bytesIn, recordsOf, none}
+use Rattle.packet.specs.Packet.{stores, bytesIn, recordsOf, none}
 use Rattle.packet.specs.Meaning.{optionOf, meaning}
 use Rattle.packet.specs.declared.Packet.{Packet}
 use Rattle.reading.specs.Options.{Tail, options}
 use Rattle.reading.specs.Reading.{longest, packetOf, reading}
-use Rattle.reading.proofs.Sound.{Follows, follows, marks, inside-bytes, inside-length, inside-are, inside-split}
+use Rattle.reading.proofs.Sound.{optionIn, InDatagram, options-in, Follows, follows, marks, inside-bytes, inside-length, inside-are, inside-split}
 use Rattle.reading.proofs.Taken.{Taken, taken, bare, given-map}
 
 -- The records of a packet that was read are those that were found.
@@ -40,13 +40,14 @@ meant s raw t =
       code = raw .code;
       id = raw .«message_id»;
       token = bytesIn s 4 (tokenOf raw);
-      options = map (optionOf s) (t .records);
+      options = map (optionIn s) (t .records);
       payload = bytesIn s (t .payload) (length s - t .payload);
     }
 
-pub is-meant : (s : List ℕ) (raw : HeaderRaw) (t : Tail) → meaning s (packetOf s raw t) ≡ meant s raw t
+pub is-meant : (s edits : List ℕ) (raw : HeaderRaw) (t : Tail) → InDatagram (t .records) → meaning (stores s edits) (packetOf s raw t) ≡ meant s raw t
 unfolding meant packetOf headerOf
-is-meant s raw t =
+is-meant s edits raw t homes =
+    let same = ap (map (optionOf (stores s edits))) (records-found s raw t) ∙ options-in s edits (t .records) homes in
     λ i.
     record {
       version = versionOf raw;
@@ -54,7 +55,7 @@ is-meant s raw t =
       code = byte-back (raw .code) i;
       id = raw .«message_id»;
       token = bytesIn s 4 (tokenOf raw);
-      options = map (optionOf s) (records-found s raw t i);
+      options = same i;
       payload = bytesIn s (t .payload) (length s - t .payload);
     }
 
@@ -99,8 +100,8 @@ module _ (strict : Bool) (s : List ℕ) (b : Bytes s) (p : Packet) (k : Taken st
       on-given (Follows s 128 0 (4 + tokenOf (k .raw))) (options (longest strict) s 128 0 (4 + tokenOf (k .raw))) (k .tail)
       (follows (longest strict) s b 128 0 (4 + tokenOf (k .raw)) (k .token-inside)) (k .options)
 
-  pub means : meaning s p ≡ meant s (k .raw) (k .tail)
-  means = ap (meaning s) (k .packet) ∙ is-meant s (k .raw) (k .tail)
+  pub means : (edits : List ℕ) → meaning (stores s edits) p ≡ meant s (k .raw) (k .tail)
+  means edits = ap (meaning (stores s edits)) (k .packet) ∙ is-meant s edits (k .raw) (k .tail) (found .homes)
 
   head-laid : headerLayout (meant s (k .raw) (k .tail)) ≡ take 4 s
   unfolding headerLayout meant
@@ -115,7 +116,7 @@ module _ (strict : Bool) (s : List ℕ) (b : Bytes s) (p : Packet) (k : Taken st
   laid-out =
       let t = k .tail in
       let token = bytesIn s 4 (tokenOf (k .raw)) in
-      let os = optionsLayout 0 (map (optionOf s) (t .records)) in
+      let os = optionsLayout 0 (map (optionIn s) (t .records)) in
       let payload = payloadLayout (bytesIn s (t .payload) (length s - t .payload)) in
       let body : token ++ (os ++ (payload ++ marks (bare s t) [])) ≡ drop 4 s =
       rw (payload-layout s (t .marked) (t .payload) (found .inside) (found .unmarked), ← found .bytes)
@@ -132,7 +133,7 @@ module _ (s : List ℕ) (b : Bytes s) (p : Packet) (k : Taken true s p) where
       let short : length s ≤ 4 = k .empty refl e in
       let no-token : token ≡ 0 = omega (arith, k .token-inside) in
       let none-left : drop (4 + token) s ≡ [] = drop-of-length-le s {i = 4 + token} (omega arith) in
-      let nothing = no-options 0 (map (optionOf s) (k .tail .records)) (marks (k .tail .marked) (drop (k .tail .payload) s)) (sym none-left ∙ f .bytes) in
+      let nothing = no-options 0 (map (optionIn s) (k .tail .records)) (marks (k .tail .marked) (drop (k .tail .payload) s)) (sym none-left ∙ f .bytes) in
       record {
         token = rw (inside-bytes s 4 token (k .token-inside), no-token) refl;
         options = nothing .0;
@@ -157,9 +158,10 @@ module _ (s : List ℕ) (b : Bytes s) (p : Packet) (k : Taken true s p) where
         empty = nothing-more;
       }
 
-  accepts : WellFormed (meaning s p) × (layout (meaning s p) ≡ s)
-  accepts = rw (means true s b p k) (well-formed, sym (append-nil _) ∙ (rw (k .alone refl) at (laid-out true s b p k)))
+  accepts : (edits : List ℕ) → WellFormed (meaning (stores s edits) p) × (layout (meaning (stores s edits) p) ≡ s)
+  accepts edits = rw (means true s b p k edits) (well-formed, sym (append-nil _) ∙ (rw (k .alone refl) at (laid-out true s b p k)))
 
--- What strict reading accepts means a well-formed message whose layout is the datagram.
-pub accepted : (s : List ℕ) → Bytes s → Given (λ (p : Packet). WellFormed (meaning s p) × (layout (meaning s p) ≡ s)) (reading true s)
+-- What strict reading accepts means a well-formed message whose layout is the datagram, whatever the edit store holds.
+pub accepted : (s : List ℕ) → Bytes s
+    → Given (λ (p : Packet). (edits : List ℕ) → WellFormed (meaning (stores s edits) p) × (layout (meaning (stores s edits) p) ≡ s)) (reading true s)
 accepted s b = given-map (accepts s b) (reading true s) (taken true s b)

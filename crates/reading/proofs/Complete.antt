@@ -14,9 +14,10 @@ use Rattle.rfc.specs.Message.{Opt, Message, WellFormed, Bare, Rising, Options, 
 use Rattle.ground.proofs.Choice.{by-lt, by-eq}
 use Rattle.rfc.proofs.Message.{nibble-none, nibble-one, nibble-two, extension-none, extension-one, extension-two, nibble-small}
 use Rattle.refusal.specs.Answer.{given}
-use Rattle.packet.specs.Packet.{bytesIn}
-use Rattle.packet.specs.Meaning.{optionOf, meaning}
+use Rattle.packet.specs.Packet.{stores, bytesIn}
+use Rattle.packet.specs.Meaning.{meaning}
 use Rattle.packet.specs.declared.Packet.{Packet}
+use Rattle.packet.specs.declared.Home.the-variants.{Datagram}
 use Rattle.packet.specs.declared.OptionRecord.{OptionRecord}
 use Rattle.header.specs.Header.{rawBytes, versionOf, tokenOf}
 use Rattle.header.specs.declared.HeaderRaw.{HeaderRaw}
@@ -24,7 +25,7 @@ use Rattle.header.proofs.Raw.{raw-back}
 use Rattle.reading.specs.Reading.{packetOf, finished, afterHeader, reading}
 use Rattle.option_reading.specs.Option.{option, extended, valueAt, lengthAt, optionAt, placeAt, end}
 use Rattle.reading.specs.Options.{Tail, options}
-use Rattle.reading.proofs.Sound.{inside-bytes}
+use Rattle.reading.proofs.Sound.{optionIn, InDatagram, inside-bytes}
 use Rattle.reading.proofs.Walk.{options-ended, options-more}
 use Rattle.reading.proofs.Accept.{rest-bytes, meant, is-meant}
 
@@ -78,7 +79,8 @@ pub record Finds (s : List ℕ) (number at : ℕ) (o : Opt) (rest : List ℕ) : 
   pub is : placeAt 65804 s number at ≡ given (option found)
   pub after : drop (end found) s ≡ rest
   pub inside : end found ≤ length s
-  pub means : optionOf s found ≡ o
+  pub home : found .home ≡ Datagram
+  pub means : optionIn s found ≡ o
 
 join : (a b c d : List ℕ) → (a ++ (b ++ c)) ++ d ≡ a ++ (b ++ (c ++ d))
 join a b c d = simp append-assoc
@@ -112,10 +114,11 @@ finds-pieces s number at d v rest low short e inside =
     let room : length v ≤ length s - a₃ = omega arith in
     let here : at < length s = omega arith in
     record {
-      found = record { number = number + d; spare = 0; start = a₃; len = length v };
+      found = record { number = number + d; home = Datagram; spare = 0; start = a₃; len = length v };
       is = rw (lt-leb (length s) at here, ne-eqb (getD s at 0) 255 (λ q. omega arith), high, low-nibble, x₁, x₂, le-ltb 65535 (number + d) low, le-ltb (length s - a₃) (length v) room) refl;
       after = past s a₃ v rest p₃ f₃;
       inside = ends;
+      home = refl;
       means = ap (λ (l : List ℕ). record { number = number + d; value = l }) (names s a₃ v rest p₃ f₃);
     }
 
@@ -133,7 +136,8 @@ finds s number at o rest rises low short e inside =
 pub record Reads (s : List ℕ) (room number at : ℕ) (os : List Opt) (pl : List ℕ) : Type 0 where
   pub tail : Tail
   pub is : options 65804 s room number at ≡ given tail
-  pub means : map (optionOf s) (tail .records) ≡ os
+  pub homes : InDatagram (tail .records)
+  pub means : map (optionIn s) (tail .records) ≡ os
   pub payload : bytesIn s (tail .payload) (length s - tail .payload) ≡ pl
   pub alone : both (tail .marked) (eqb (tail .payload) (length s)) ≡ false
 
@@ -146,6 +150,7 @@ module _ (s : List ℕ) where
       record {
         tail = record { records = []; marked = false; payload = length s };
         is = options-ended 65804 s room number at false (length s) (rw (le-leb (length s) at long) refl);
+        homes = tt;
         means = refl;
         payload = rest-bytes s (length s) (omega arith) ∙ drop-length s;
         alone = refl;
@@ -160,6 +165,7 @@ module _ (s : List ℕ) where
       record {
         tail = record { records = []; marked = true; payload = at + 1 };
         is = options-ended 65804 s room number at true (at + 1) (rw (lt-leb (length s) at here, eq-eqb (getD s at 0) 255 first) refl);
+        homes = tt;
         means = refl;
         payload = rest-bytes s (at + 1) f ∙ p;
         alone = ne-eqb (at + 1) (length s) (λ q. omega arith);
@@ -177,6 +183,7 @@ module _ (s : List ℕ) where
       record {
         tail = record { records = f .found ∷ r .tail .records; marked = r .tail .marked; payload = r .tail .payload };
         is = options-more 65804 s room number at (f .found) (f .is) ∙ (rw (same, r .is) refl);
+        homes = (f .home, r .homes);
         means = λ i. f .means i ∷ r .means i;
         payload = r .payload;
         alone = r .alone;
@@ -253,11 +260,12 @@ module _ (m : Message) (w : WellFormed m) where
       ap (λ (k : ℕ). options 65804 s 128 0 (4 + k)) token-is ∙ tail-reads .is in
       rw (eq-eqb (versionOf (raw m)) 1 version-is, le-ltb 8 (tokenOf (raw m)) short, le-ltb (length s) (4 + tokenOf (raw m)) inside, carries, options-read, tail-reads .alone) refl
 
--- The packet that strict reading gives for the layout of a message, and that it means the message.
+-- The packet that strict reading gives for the layout of a message, and that it means the message, whatever the edit
+-- store holds.
 pub record ReadsBack (m : Message) : Type 0 where
   pub packet : Packet
   pub is : reading true (layout m) ≡ given packet
-  pub means : meaning (layout m) packet ≡ m
+  pub means : (edits : List ℕ) → meaning (stores (layout m) edits) packet ≡ m
 
 pub reads-layout : (m : Message) → WellFormed m → length (layout m) ≤ 70000 → ReadsBack m
 unfolding reading s
@@ -268,5 +276,5 @@ reads-layout m w fits =
     record {
       packet = packetOf (s m w) (raw m) t;
       is = rw (same, le-ltb 70000 (length (rawBytes (raw m) ++ body m)) here, raw-back (raw m) (body m)) (after-reads m w);
-      means = rw same (is-meant (s m w) (raw m) t ∙ means-it m w);
+      means = λ edits. rw same (is-meant (s m w) edits (raw m) t (tail-reads m w .homes) ∙ means-it m w);
     }

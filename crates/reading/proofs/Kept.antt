@@ -1,4 +1,4 @@
--- A packet that was read has no bad record over its datagram: later operations never refuse it 11.
+-- A packet that was read has no bad record over its datagram, whatever the edit store holds: later operations never refuse it 11.
 use Prim.Native.Nat.{ℕ, zero, suc, _+_, _-_, _≤_}
 use mathlib.Core.Path.{_≡_, refl, ap, _∙_}
 use mathlib.Core.Bool.{Bool, false}
@@ -12,8 +12,8 @@ use Rattle.ground.proofs.Choice.{none-of}
 use Rattle.header.specs.Header.{headerOf, tokenOf}
 use Rattle.header.specs.declared.HeaderRaw.{HeaderRaw}
 use Rattle.class.proofs.Class.{byte-back}
-use Rattle.packet.specs.Packet.{none, recordsOf}
-use Rattle.judging.specs.Judge.{falling, badValue, badValues, badPacket}
+use Rattle.packet.specs.Packet.{stores, none, recordsOf}
+use Rattle.judging.specs.Judge.{lengthsOf, falling, badValue, badValues, badPacket}
 use Rattle.packet.specs.Shape.{Numbers, Shaped}
 use Rattle.packet.specs.declared.Packet.{Packet}
 use Rattle.packet.specs.declared.OptionRecord.{OptionRecord}
@@ -30,13 +30,13 @@ use Rattle.reading.proofs.Accept.{records-found}
 record Fine (s : List ℕ) (room number : ℕ) (t : Tail) : Type 0 where
   count : length (t .records) ≤ room
   ordered : falling number (t .records) ≡ false
-  values : badValues (length s) (t .records) ≡ false
+  values : (edits : List ℕ) → badValues (lengthsOf (stores s edits)) (t .records) ≡ false
   numbers : Numbers (t .records)
   inside : t .payload ≤ length s
 
 module _ (longest : ℕ) (s : List ℕ) (b : Bytes s) where
   none-fine : (room number at : ℕ) (marked : Bool) (payload : ℕ) → Ended s at marked payload → Fine s room number (record { records = []; marked = marked; payload = payload })
-  none-fine room number at marked payload e = record { count = omega arith; ordered = refl; values = refl; numbers = tt; inside = e .inside }
+  none-fine room number at marked payload e = record { count = omega arith; ordered = refl; values = λ edits. refl; numbers = tt; inside = e .inside }
 
   one-fine : (room number at : ℕ) (r : OptionRecord) → Laid s number at r → (t : Tail) → Fine s room (r .number) t
       → Fine s (suc room) number (record { records = r ∷ t .records; marked = t .marked; payload = t .payload })
@@ -44,9 +44,9 @@ module _ (longest : ℕ) (s : List ℕ) (b : Bytes s) where
       record {
         count = omega (arith, f .count);
         ordered = none-of (ltb (r .number) number) (falling (r .number) (t .records)) (le-ltb (r .number) number (l .rises)) (f .ordered);
-        values =
-            none-of (badValue (length s) r) (badValues (length s) (t .records))
-            (none-of (ltb (length s) (r .start + r .len)) (ltb 65804 (r .len)) (le-ltb (length s) (r .start + r .len) (l .inside)) (le-ltb 65804 (r .len) (l .short))) (f .values);
+        values = λ edits.
+            none-of (badValue (lengthsOf (stores s edits)) r) (badValues (lengthsOf (stores s edits)) (t .records))
+            (rw (l .home, le-ltb (length s) (r .start + r .len) (l .inside)) (le-ltb 65804 (r .len) (l .short))) (f .values edits);
         numbers = (omega (arith, l .low), f .numbers);
         inside = f .inside;
       }
@@ -68,16 +68,16 @@ numbers-none : (n : ℕ) → Numbers (replicate n none)
 numbers-none zero = tt
 numbers-none (suc n) = (omega arith, numbers-none n)
 
--- What holds of a packet that was read, over its datagram: no bad record, and what its types say.
+-- What holds of a packet that was read, over its datagram and any edit store: no bad record, and what its types say.
 abbrev pub Kept : List ℕ → Packet → Type 0
-Kept s p = (badPacket (length s) p ≡ false) × Shaped p
+Kept s p = ((edits : List ℕ) → badPacket (lengthsOf (stores s edits)) p ≡ false) × Shaped p
 
 packet-kept : (s : List ℕ) (raw : HeaderRaw) → RawSmall s raw → tokenOf raw ≤ 8 → 4 + tokenOf raw ≤ length s → (t : Tail) → Fine s 128 0 t → Kept s (packetOf s raw t)
 unfolding packetOf headerOf
 packet-kept s raw small token inside t f =
     let p : Packet = packetOf s raw t in
     let found : recordsOf p ≡ t .records = records-found s raw t in (
-      not-bad (length s) p
+      λ edits. not-bad (lengthsOf (stores s edits)) p
           (record {
             version = omega (arith, small .first);
             count = f .count;
@@ -85,7 +85,7 @@ packet-kept s raw small token inside t f =
             token = inside;
             payload = omega (arith, f .inside);
             token-length = omega (arith, token);
-            values = ap (badValues (length s)) found ∙ f .values;
+            values = ap (badValues (lengthsOf (stores s edits))) found ∙ f .values edits;
           }),
       record {
         code = rw (byte-back (raw .code)) (small .code);

@@ -12,14 +12,13 @@ use Rattle.ground.proofs.Choice.{by-lt}
 use Rattle.rfc.specs.Message.{Opt}
 use Rattle.refusal.specs.Answer.{Answer, given, refused, onward}
 use Rattle.refusal.proofs.Answers.{Given, given-onward}
-use Rattle.packet.specs.Meaning.{optionOf}
 use Rattle.packet.specs.declared.OptionRecord.{OptionRecord}
 use Rattle.option_reading.specs.Option.{Place, option, placeAt, end}
 use Rattle.option_reading.proofs.Longest.{cappedPlace, place-capped}
 use Rattle.reading.specs.Options.{Tail, options, before}
 use Rattle.reading.specs.Reading.{longest}
 use Rattle.reading.proofs.Walk.{options-refused, options-ended, options-more}
-use Rattle.reading.proofs.Sound.{Stands, stands, given-place, inside-length}
+use Rattle.reading.proofs.Sound.{optionIn, Stands, stands, given-place, inside-length}
 
 -- No value is longer than `most`.
 abbrev pub valuesWithin : ℕ → List Opt → Bool
@@ -28,7 +27,7 @@ valuesWithin most (o ∷ os) = both (leb (length (o .value)) most) (valuesWithin
 
 -- What another longest value makes of options that were read.
 abbrev pub cappedTail : ℕ → List ℕ → Tail → Answer Tail
-cappedTail most s t = pick (valuesWithin most (map (optionOf s) (t .records))) (given t) (refused 4)
+cappedTail most s t = pick (valuesWithin most (map (optionIn s) (t .records))) (given t) (refused 4)
 
 given-both : {A : Type 0} (P Q : A → Type 0) (a : Answer A) → Given P a → Given Q a → Given (λ (v : A). P v × Q v) a
 given-both P Q (given v) p q = (p, q)
@@ -61,7 +60,7 @@ module _ (longest most : ℕ) (wide : 268 ≤ most) (s : List ℕ) (b : Bytes s)
       (λ long. rw (lt-leb (r .len) most long) (options-refused most s (suc room) number at 4 (e ∙ (rw (lt-leb (r .len) most long) refl))))
       (λ fits. rw (le-leb (r .len) most fits)
       (options-more most s room number at r (e ∙ (rw (le-leb (r .len) most fits) refl))
-      ∙ (ap (λ (a : Answer Tail). onward a (before r)) h ∙ onward-pick (valuesWithin most (map (optionOf s) (t .records))) t 4 (before r)))))
+      ∙ (ap (λ (a : Answer Tail). onward a (before r)) h ∙ onward-pick (valuesWithin most (map (optionIn s) (t .records))) t 4 (before r)))))
 
   pub options-capped : (room number at : ℕ) → at ≤ length s → Given (Same room number at) (options longest s room number at)
   unfolding options

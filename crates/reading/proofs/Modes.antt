@@ -16,11 +16,12 @@ use Rattle.refusal.specs.Answer.{Answer, given, refused}
 use Rattle.refusal.proofs.Answers.{Given, on-given}
 use Rattle.header.specs.Header.{tokenOf}
 use Rattle.packet.specs.Limits.{maxValue}
-use Rattle.packet.specs.Meaning.{optionOf, meaning}
+use Rattle.packet.specs.Packet.{stores}
+use Rattle.packet.specs.Meaning.{meaning}
 use Rattle.packet.specs.declared.Packet.{Packet}
 use Rattle.reading.specs.Options.{Tail, options}
 use Rattle.reading.specs.Reading.{longest, finished, afterHeader, reading}
-use Rattle.reading.proofs.Sound.{marks}
+use Rattle.reading.proofs.Sound.{optionIn, marks}
 use Rattle.reading.proofs.Longest.{valuesWithin, cappedTail, onward-pick, options-capped}
 use Rattle.reading.proofs.Taken.{Taken, taken, bare, given-map}
 use Rattle.reading.proofs.Accept.{meant, found, means, laid-out}
@@ -61,10 +62,10 @@ module _ (mode : Bool) (s : List ℕ) (b : Bytes s) (p : Packet) (k : Taken mode
       let t = k .tail in
       rw (le-ltb 8 (tokenOf raw) (k .token-short), le-ltb (length s) (4 + tokenOf raw) (k .token-inside), carries-is (length s) (tokenOf raw) (k .token-inside), options-again, onward-pick _ t 4 (finished strict s raw), k .packet, ← longer (bare s t) (layout (meant s raw t)) s (laid-out mode s b p k)) refl
 
-  again : reading strict s ≡ readAgain strict s (meaning s p) p
+  again : (edits : List ℕ) → reading strict s ≡ readAgain strict s (meaning (stores s edits) p) p
   unfolding reading
-  again =
-      rw (le-ltb 70000 (length s) (k .fits), k .header) (after-again ∙ ap (λ (m : Message). readAgain strict s m p) (sym (means mode s b p k)))
+  again edits =
+      rw (le-ltb 70000 (length s) (k .fits), k .header) (after-again ∙ ap (λ (m : Message). readAgain strict s m p) (sym (means mode s b p k edits)))
 
 -- No value is longer than any mode takes.
 values-fine : (os : List Opt) → Options os → valuesWithin maxValue os ≡ true
@@ -77,20 +78,20 @@ ending false l s e = inl (sym e ∙ append-nil l)
 
 -- A datagram of which a mode has read a packet: what each mode answers to it, that no value is longer than strict takes, and
 -- that the datagram is the layout of its meaning, or one FF more.
-pub record Seen (s : List ℕ) (p : Packet) : Type 0 where
-  pub answers : (strict : Bool) → reading strict s ≡ readAgain strict s (meaning s p) p
-  pub fine : valuesWithin maxValue (meaning s p .options) ≡ true
-  pub ends : (s ≡ layout (meaning s p)) ⊎ (s ≡ layout (meaning s p) ++ (255 ∷ []))
+pub record Seen (s edits : List ℕ) (p : Packet) : Type 0 where
+  pub answers : (strict : Bool) → reading strict s ≡ readAgain strict s (meaning (stores s edits) p) p
+  pub fine : valuesWithin maxValue (meaning (stores s edits) p .options) ≡ true
+  pub ends : (s ≡ layout (meaning (stores s edits) p)) ⊎ (s ≡ layout (meaning (stores s edits) p) ++ (255 ∷ []))
 
-pub seen : (mode : Bool) (s : List ℕ) → Bytes s → Given (Seen s) (reading mode s)
+pub seen : (mode : Bool) (s : List ℕ) → Bytes s → Given (λ (p : Packet). (edits : List ℕ) → Seen s edits p) (reading mode s)
 unfolding meant
 seen mode s b = given-map one (reading mode s) (taken mode s b)
   where
-    one : (p : Packet) → Taken mode s p → Seen s p
-    one p k =
-        let m = means mode s b p k in
+    one : (p : Packet) → Taken mode s p → (edits : List ℕ) → Seen s edits p
+    one p k edits =
+        let m = means mode s b p k edits in
         record {
-          answers = again mode s b p k;
-          fine = ap (λ (n : Message). valuesWithin maxValue (n .options)) m ∙ values-fine (map (optionOf s) (k .tail .records)) (found mode s b p k .options);
-          ends = ending (bare s (k .tail)) (layout (meaning s p)) s (rw m (laid-out mode s b p k));
+          answers = λ strict. again mode s b p k strict edits;
+          fine = ap (λ (n : Message). valuesWithin maxValue (n .options)) m ∙ values-fine (map (optionIn s) (k .tail .records)) (found mode s b p k .options);
+          ends = ending (bare s (k .tail)) (layout (meaning (stores s edits) p)) s (rw m (laid-out mode s b p k));
         }

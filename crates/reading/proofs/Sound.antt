@@ -8,14 +8,15 @@ use native.Mathlib.Omega.{arith}
 use lib.ListN.{length, getD, take, drop, length-drop, take-append-drop, drop-of-length-le}
 use lib.Seq.{drop-cons, drop-drop, length-take-le, drop-length}
 use borrow.Author.Tests.{le-leb}
-use Rattle.rfc.specs.Message.{nibbleOf, extensionOf, optionLayout, optionsLayout, Rising, Options}
+use Rattle.rfc.specs.Message.{Opt, nibbleOf, extensionOf, optionLayout, optionsLayout, Rising, Options}
 use Rattle.ground.specs.Part.{Bytes}
 use Rattle.ground.proofs.Choice.{on-lt, on-le, on-eq}
 use Rattle.rfc.proofs.Message.{nibble-none, nibble-one, nibble-two, extension-none, extension-one, extension-two}
 use Rattle.ground.proofs.Part.{byte-at, bytes-take, bytes-drop}
 use Rattle.refusal.specs.Answer.{Answer, given, refused}
-use Rattle.packet.specs.Packet.{bytesIn}
+use Rattle.packet.specs.Packet.{chosen, stores, bytesIn}
 use Rattle.packet.specs.Meaning.{optionOf}
+use Rattle.packet.specs.declared.Home.the-variants.{Datagram}
 use Rattle.packet.specs.declared.OptionRecord.{OptionRecord}
 use Rattle.option_reading.specs.Option.{Value, Place, ended, option, extended, valueAt, lengthAt, optionAt, placeAt, end}
 use Rattle.reading.specs.Options.{Tail, options, onPlace, before}
@@ -96,9 +97,24 @@ pub inside-split : (s : List ℕ) (start len : ℕ) → start + len ≤ length s
 inside-split s start len h =
     rw (inside-bytes s start len h) (sym (take-append-drop len (drop start s)) ∙ ap (λ (l : List ℕ). take len (drop start s) ++ l) (drop-drop len start s))
 
+-- The option of a record whose value lies in the datagram.
+abbrev pub optionIn : List ℕ → OptionRecord → Opt
+optionIn s r = record { number = r .number; value = bytesIn s (r .start) (r .len) }
+
+-- Records whose values lie in the datagram: they are the same options whatever the edit store holds.
+abbrev pub InDatagram : List OptionRecord → Type 0
+InDatagram [] = Unit
+InDatagram (r ∷ rs) = (r .home ≡ Datagram) × InDatagram rs
+
+pub options-in : (s edits : List ℕ) (rs : List OptionRecord) → InDatagram rs → map (optionOf (stores s edits)) rs ≡ map (optionIn s) rs
+options-in s edits [] h = refl
+options-in s edits (r ∷ rs) h =
+    λ i. record { number = r .number; value = bytesIn (chosen (h .0 i) s edits) (r .start) (r .len) } ∷ options-in s edits rs (h .1) i
+
 -- An option: laid out at its position, after a number that is no higher.
 pub record Laid (s : List ℕ) (number at : ℕ) (r : OptionRecord) : Type 0 where
-  pub bytes : drop at s ≡ optionLayout number (optionOf s r) ++ drop (end r) s
+  pub bytes : drop at s ≡ optionLayout number (optionIn s r) ++ drop (end r) s
+  pub home : r .home ≡ Datagram
   pub rises : number ≤ r .number
   pub low : r .number ≤ 65535
   pub short : r .len ≤ 65804
@@ -124,7 +140,7 @@ split-two a c d e = simp append-assoc
 module _ (longest : ℕ) (s : List ℕ) (b : Bytes s) where
   laid : (number at : ℕ) (h : at < length s) (delta : Value) → Extends s (at + 1) (getD s at 0 / 16) delta → (len : Value) → Extends s (delta .next) (getD s at 0 % 16) len
       → number + delta .value ≤ 65535 → len .value ≤ length s - len .next
-      → Laid s number at (record { number = number + delta .value; spare = 0; start = len .next; len = len .value })
+      → Laid s number at (record { number = number + delta .value; home = Datagram; spare = 0; start = len .next; len = len .value })
   unfolding optionLayout
   laid number at h delta d len l low fits =
       let ends : len .next + len .value ≤ length s = omega (arith, l .inside) in
@@ -133,6 +149,7 @@ module _ (longest : ℕ) (s : List ℕ) (b : Bytes s) where
       record {
         bytes = rw (n, inside-length s (len .next) (len .value) ends, ← first, byte-first s at h, d .bytes, l .bytes, inside-split s (len .next) (len .value) ends)
             (ap (λ (l : List ℕ). getD s at 0 ∷ l) (sym (split-two (extensionOf (delta .value)) (extensionOf (len .value)) (bytesIn s (len .next) (len .value)) (drop (len .next + len .value) s))));
+        home = refl;
         rises = omega arith;
         low = low;
         short = l .small;
@@ -166,9 +183,10 @@ module _ (longest : ℕ) (s : List ℕ) (b : Bytes s) where
 
 -- The options that were read, laid out from a position, and what ends them.
 pub record Follows (s : List ℕ) (room number at : ℕ) (t : Tail) : Type 0 where
-  pub bytes : drop at s ≡ optionsLayout number (map (optionOf s) (t .records)) ++ marks (t .marked) (drop (t .payload) s)
-  pub rising : Rising number (map (optionOf s) (t .records))
-  pub options : Options (map (optionOf s) (t .records))
+  pub bytes : drop at s ≡ optionsLayout number (map (optionIn s) (t .records)) ++ marks (t .marked) (drop (t .payload) s)
+  pub homes : InDatagram (t .records)
+  pub rising : Rising number (map (optionIn s) (t .records))
+  pub options : Options (map (optionIn s) (t .records))
   pub count : length (t .records) ≤ room
   pub inside : t .payload ≤ length s
   pub unmarked : t .marked ≡ false → t .payload ≡ length s
@@ -183,13 +201,14 @@ given-place P Q (refused k) next h f g = tt
 module _ (longest : ℕ) (s : List ℕ) (b : Bytes s) where
   none-follow : (room number at : ℕ) (marked : Bool) (payload : ℕ) → Ended s at marked payload → Follows s room number at (record { records = []; marked = marked; payload = payload })
   none-follow room number at marked payload e =
-      record { bytes = e .bytes; rising = tt; options = tt; count = omega arith; inside = e .inside; unmarked = e .unmarked }
+      record { bytes = e .bytes; homes = tt; rising = tt; options = tt; count = omega arith; inside = e .inside; unmarked = e .unmarked }
 
   one-follows : (room number at : ℕ) (r : OptionRecord) → Laid s number at r → (t : Tail) → Follows s room (r .number) (end r) t
       → Follows s (suc room) number at (record { records = r ∷ t .records; marked = t .marked; payload = t .payload })
   one-follows room number at r l t f =
       record {
-        bytes = l .bytes ∙ (rw (f .bytes) (sym (append-assoc (optionLayout number (optionOf s r)) _ _)));
+        bytes = l .bytes ∙ (rw (f .bytes) (sym (append-assoc (optionLayout number (optionIn s r)) _ _)));
+        homes = (l .home, f .homes);
         rising = (l .rises, f .rising);
         options = (l .low, rw (inside-length s (r .start) (r .len) (l .inside)) (l .short), inside-are s (r .start) (r .len) b (l .inside), f .options);
         count = omega (arith, f .count);

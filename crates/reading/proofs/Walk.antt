@@ -12,7 +12,7 @@ use native.Mathlib.Omega.{arith}
 use lib.ListN.{length, set, replicate, length-append}
 use lib.Seq.{set-at}
 use Rattle.refusal.specs.Answer.{Answer, given, refused, onward}
-use Rattle.packet.specs.Packet.{none}
+use Rattle.packet.specs.Packet.{none, inDatagram}
 use Rattle.packet.specs.declared.OptionRecord.{OptionRecord}
 use Rattle.option_reading.specs.Option.{ended, option, placeAt, end}
 use Rattle.reading.specs.Options.{Tail, before, options}
@@ -99,14 +99,14 @@ module _ (longest : ℕ) (s : List ℕ) where
 
     -- The packet that is made of the walk's records is that of the definition.
     pub packet-is : (raw : HeaderRaw) (marked : Bool) (payload : ℕ)
-        → record { header = headerOf raw; token = record { start = 4; len = tokenOf raw }; count = count; options = records; payload = record { start = payload; len = length s - payload } }
+        → record { header = headerOf raw; token = inDatagram 4 (tokenOf raw); count = count; options = records; payload = inDatagram payload (length s - payload) }
         ≡ packetOf s raw (record { records = w .found; marked = marked; payload = payload })
     unfolding packetOf
     packet-is raw marked payload =
         let options : records ≡ w .found ++ replicate (128 - length (w .found)) none =
         w .array ∙ ap (λ (n : ℕ). w .found ++ replicate (128 - n) none) (w .counted) in
         λ i.
-        record { header = headerOf raw; token = record { start = 4; len = tokenOf raw }; count = w .counted i; options = options i; payload = record { start = payload; len = length s - payload } }
+        record { header = headerOf raw; token = inDatagram 4 (tokenOf raw); count = w .counted i; options = options i; payload = inDatagram payload (length s - payload) }
 
 -- A marker that ends the datagram is refused, and any other end gives the packet.
 module _ (strict : Bool) (s : List ℕ) (raw : HeaderRaw) (t : Tail) where

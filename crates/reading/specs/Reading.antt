@@ -10,7 +10,7 @@ use Rattle.refusal.specs.Answer.{Answer, given, refused, onward, outcome, Besid
 use Rattle.header.specs.Header.{versionOf, tokenOf, headerOf, rawIn}
 use Rattle.header.specs.declared.HeaderRaw.{HeaderRaw}
 use Rattle.packet.specs.Limits.{maxStore, maxOptions, maxValue, maxPlainValue}
-use Rattle.packet.specs.Packet.{none, newPacket}
+use Rattle.packet.specs.Packet.{none, inDatagram, newPacket}
 use Rattle.packet.specs.declared.Packet.{Packet}
 use Rattle.reading.specs.Options.{Tail, options}
 use Rattle.reading.specs.declared.Decoded.{Decoded}
@@ -20,15 +20,15 @@ abbrev pub longest : Bool → ℕ
 longest strict = pick strict maxValue maxPlainValue
 
 -- The packet of a datagram that was read: its token after the header, its records in the array's first places and the empty
--- record in the others, its payload to the end.
+-- record in the others, its payload to the end; an empty range names the datagram too.
 unfoldable pub packetOf : List ℕ → HeaderRaw → Tail → Packet
 packetOf s raw t =
     record {
       header = headerOf raw;
-      token = record { start = 4; len = tokenOf raw };
+      token = inDatagram 4 (tokenOf raw);
       count = length (t .records);
       options = t .records ++ replicate (maxOptions - length (t .records)) none;
-      payload = record { start = t .payload; len = length s - t .payload };
+      payload = inDatagram (t .payload) (length s - t .payload);
     }
 
 -- The packet once the options are read: a marker that ends the datagram gives strict 9.

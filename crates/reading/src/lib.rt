@@ -4,6 +4,7 @@ use header::HeaderRaw;
 use header::RawRead;
 use option_reading::Found;
 use option_reading::place_at;
+use packet::Home;
 use packet::OptionRecord;
 use packet::Packet;
 use packet::Range;
@@ -23,7 +24,7 @@ ghost use Rattle.refusal.specs.Answer.{refused, beside};
 ghost use Rattle.refusal.specs.Number.{numberOf};
 ghost use Rattle.header.specs.Header.{rawRead, headerOf, tokenOf};
 ghost use Rattle.reading.specs.Answers.{Opened};
-ghost use Rattle.packet.specs.Packet.{newPacket};
+ghost use Rattle.packet.specs.Packet.{inDatagram, newPacket};
 ghost use Rattle.reading.specs.Reading.{decoded, FromBytes, reading, longest, afterHeader};
 
 // What reading answers. The packet of a refused datagram is the new packet.
@@ -90,7 +91,7 @@ pub fn from_bytes_in(strict: bool, buf: &[u8]) -> Decoded
     }
 }
 
-// The packet of a header and its records, with a payload from a position to the end.
+// The packet of a header and its records, with a payload from a position to the end; an empty range names the datagram too.
 fn packet_of(
     raw: HeaderRaw,
     count: usize,
@@ -99,17 +100,19 @@ fn packet_of(
     end: usize,
 ) -> Packet
     requires { ⌜ (payload ≤ end) × (end ≤ 70000) ⌝ }
-    ensures { λ r. ⌜ r ≡ record { header = headerOf raw; token = record { start = 4; len = tokenOf raw }; count = count; options = options; payload = record { start = payload; len = end - payload } } ⌝ }
+    ensures { λ r. ⌜ r ≡ record { header = headerOf raw; token = inDatagram 4 (tokenOf raw); count = count; options = options; payload = inDatagram payload (end - payload) } ⌝ }
 {
     Packet {
         header: Header::from_raw(raw),
         token: Range {
+            home: Home::Datagram,
             start: 4,
             len: raw.token_length() as u32,
         },
         count,
         options,
         payload: Range {
+            home: Home::Datagram,
             start: payload as u32,
             len: (end - payload) as u32,
         },

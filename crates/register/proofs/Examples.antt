@@ -5,12 +5,13 @@ use mathlib.Core.Bool.{Bool, true, false}
 use mathlib.Core.List.{List, [], _∷_, map}
 use Rattle.rfc.specs.Recognised.{recognised, fate}
 use Rattle.packet.specs.declared.OptionRecord.{OptionRecord}
+use Rattle.packet.specs.declared.Home.the-variants.{Datagram}
 use Rattle.register.specs.Register.{register, isRecognised}
 use Rattle.register.specs.Check.{passes, refusedAt, fates, firstRejected, isKept}
 
 -- A record of a number whose value has a length.
 option : ℕ → ℕ → OptionRecord
-option number len = record { number = number; spare = 0; start = 0; len = len }
+option number len = record { number = number; home = Datagram; spare = 0; start = 0; len = len }
 
 -- Records that pass, and whether each is kept.
 pub record Kept : Type 0 where

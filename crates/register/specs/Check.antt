@@ -4,15 +4,15 @@ use mathlib.Core.Path.{_≡_}
 use mathlib.Core.Bool.{Bool, true, false}
 use mathlib.Core.List.{List, [], _∷_, _++_, map}
 use lib.ListN.{length, replicate}
-use lib.Dec.{ltb}
 use Rattle.ground.specs.Choice.{pick}
 use Rattle.ground.specs.Table.{listed}
 use Rattle.rfc.specs.Recognised.{Fate, kept, ignored, rejected, fate}
 use Rattle.refusal.specs.Number.{numberOf}
-use Rattle.packet.specs.Limits.{maxStore, maxOptions}
+use Rattle.packet.specs.Limits.{maxOptions}
 use Rattle.packet.specs.Packet.{recordsOf}
-use Rattle.judging.specs.Judge.{badPacket}
+use Rattle.judging.specs.Judge.{tooLong, badPacket}
 use Rattle.packet.specs.declared.Packet.{Packet}
+use Rattle.judging.specs.declared.Lengths.{Lengths}
 use Rattle.packet.specs.declared.OptionRecord.{OptionRecord}
 use Rattle.register.specs.Register.{isRecognised}
 use Rattle.register.specs.declared.Checked.{Checked}
@@ -45,13 +45,13 @@ firstRejected i (kept ∷ fs) = firstRejected (i + 1) fs
 firstRejected i (ignored ∷ fs) = firstRejected (i + 1) fs
 firstRejected i (rejected ∷ fs) = refusedAt 16 i
 
--- A store over 70,000 bytes gives 10 first, then any bad record 11, then what is said of the records.
-unfoldable pub inOrder : ℕ → Packet → Check → Check
-inOrder store p a = pick (ltb maxStore store) (refused 10) (pick (badPacket store p) (refused 11) a)
+-- Either store over 70,000 bytes gives 10 first, then any bad record 11, then what is said of the records.
+unfoldable pub inOrder : Lengths → Packet → Check → Check
+inOrder lengths p a = pick (tooLong lengths) (refused 10) (pick (badPacket lengths p) (refused 11) a)
 
--- The check of a packet over a store of this length.
-abbrev pub checking : ℕ → Packet → Check
-checking store p = inOrder store p (firstRejected 0 (fates [] (recordsOf p)))
+-- The check of a packet over stores of these lengths.
+abbrev pub checking : Lengths → Packet → Check
+checking lengths p = inOrder lengths p (firstRejected 0 (fates [] (recordsOf p)))
 
 -- What the check reports: what it says of the packet, and for each place of the array whether the record there is kept.
 pub record Report : Type 0 where
@@ -93,5 +93,5 @@ abbrev pub checked : Checked → Report
 checked c = record { answer = told (c .outcome); kept = c .kept }
 
 -- What the check promises of its answer.
-abbrev pub Checks : ℕ → Packet → Checked → Type 0
-Checks store p c = checked c ≡ reported (checking store p) (fates [] (recordsOf p))
+abbrev pub Checks : Lengths → Packet → Checked → Type 0
+Checks lengths p c = checked c ≡ reported (checking lengths p) (fates [] (recordsOf p))

@@ -1,15 +1,15 @@
 -- What it is to be recognised at an index, and to be the first critical record that isn't: what the laws of the check speak of.
-use Prim.Native.Nat.{ℕ, _<_, _≤_}
+use Prim.Native.Nat.{ℕ, _<_}
 use mathlib.Core.Path.{_≡_}
 use mathlib.Core.Bool.{Bool, true, false, not}
 use mathlib.Core.List.{List, [], _∷_}
 use lib.ListN.{length, take, getD}
 use Rattle.ground.specs.Choice.{both}
 use Rattle.rfc.specs.Option.{critical}
-use Rattle.packet.specs.Limits.{maxStore}
 use Rattle.packet.specs.Packet.{none}
-use Rattle.judging.specs.Judge.{badPacket}
+use Rattle.judging.specs.Judge.{tooLong, badPacket}
 use Rattle.packet.specs.declared.Packet.{Packet}
+use Rattle.judging.specs.declared.Lengths.{Lengths}
 use Rattle.packet.specs.declared.OptionRecord.{OptionRecord}
 use Rattle.register.specs.Check.{recognisedAfter, keeping}
 
@@ -36,7 +36,7 @@ pub record First (rs : List OptionRecord) (i : ℕ) : Type 0 where
   pub here : rejectedAt rs i ≡ true
   pub before : NoneRejected rs i
 
--- What a packet keeps to before its records are looked at: a store of at most 70,000 bytes, and no bad record.
-pub record Sound (store : ℕ) (p : Packet) : Type 0 where
-  pub short : store ≤ maxStore
-  pub good : badPacket store p ≡ false
+-- What a packet keeps to before its records are looked at: stores of at most 70,000 bytes, and no bad record.
+pub record Sound (lengths : Lengths) (p : Packet) : Type 0 where
+  pub short : tooLong lengths ≡ false
+  pub good : badPacket lengths p ≡ false

@@ -10,6 +10,7 @@ use Rattle.ground.specs.Table.{listed}
 use Rattle.rfc.specs.Option.{critical}
 use Rattle.packet.specs.Packet.{recordsOf}
 use Rattle.packet.specs.declared.Packet.{Packet}
+use Rattle.judging.specs.declared.Lengths.{Lengths}
 use Rattle.packet.specs.declared.OptionRecord.{OptionRecord}
 use Rattle.register.specs.Register.{register, rowIn}
 use Rattle.register.specs.Check.{Check, passes, refusedAt, inOrder}
@@ -37,6 +38,6 @@ firstBreak earlier (r ∷ rs) =
     pick (breaks (listed (r .number) earlier) r) (refusedAt 16 (length earlier))
     (firstBreak (earlier ++ (r .number ∷ [])) rs)
 
--- The severe check of a packet over a store of this length.
-abbrev pub severely : ℕ → Packet → Check
-severely store p = inOrder store p (firstBreak [] (recordsOf p))
+-- The severe check of a packet over stores of these lengths.
+abbrev pub severely : Lengths → Packet → Check
+severely lengths p = inOrder lengths p (firstBreak [] (recordsOf p))

@@ -1,19 +1,18 @@
 // The register of options: what an option's number says, and the check of a packet's options.
 use judging::Judged;
+use judging::Lengths;
 use packet::Packet;
 use packet::limits::MAX_OPTIONS;
-use packet::limits::MAX_STORE;
 use refusal::Refusal;
 use row::is_recognised;
 ghost use mathlib.Core.Path.{_≡_};
 ghost use mathlib.Core.Bool.{Bool};
 ghost use mathlib.Core.List.{[]};
 ghost use Prim.Native.Nat.{_≤_};
-ghost use lib.ListN.{length};
 ghost use Rattle.rfc.specs.Option.{critical, unsafe, noCacheKey};
-ghost use Rattle.packet.specs.Packet.{recordsOf};
+ghost use Rattle.packet.specs.Packet.{stores, recordsOf};
 ghost use Rattle.packet.specs.Limits.{maxOptions};
-ghost use Rattle.judging.specs.Judge.{falling};
+ghost use Rattle.judging.specs.Judge.{lengthsOf, falling};
 ghost use Rattle.register.specs.Check.{told, nothingKept, checked, fates, sorted, Checks};
 
 mod row;
@@ -54,14 +53,15 @@ pub struct Checked {
     pub kept: [bool; MAX_OPTIONS],
 }
 
-// Checks the options of a packet over its store.
-pub fn check(packet: Packet, store: &[u8]) -> Checked
-    ensures { λ r. ⌜ Checks (length (now (store .entry))) packet r ⌝ }
+// Checks the options of a packet over its stores.
+pub fn check(packet: Packet, datagram: &[u8], edits: &[u8]) -> Checked
+    ensures { λ r. ⌜ Checks (lengthsOf (stores (now (datagram .entry)) (now (edits .entry)))) packet r ⌝ }
 {
-    if MAX_STORE < store.len() {
+    let lengths = Lengths::of(datagram, edits);
+    if lengths.too_long() {
         return refused(Verdict::Refused(Refusal::TooLong));
     }
-    match judging::judge(packet, store.len()) {
+    match judging::judge(packet, lengths) {
         Judged::BadRecord => refused(Verdict::Refused(Refusal::BadRecord)),
         Judged::OptionsSize(_) => sort(packet),
     }

@@ -1,3 +1,4 @@
 mod Copied
 pub mod Places
+pub mod Homes
 pub mod Distinct

@@ -12,7 +12,7 @@ use Rattle.packet.specs.Limits.{maxOptions}
 use Rattle.packet.specs.Packet.{none, recordsOf}
 use Rattle.packet.specs.declared.Packet.{Packet}
 use Rattle.packet.specs.declared.OptionRecord.{OptionRecord}
-use Rattle.splicing.specs.Splice.{withRecords, roomy, recordOf, rangesIn, spliced}
+use Rattle.splicing.specs.Splice.{withRecords, roomy, recordOf, homeOf, rangesIn, spliced}
 
 -- What stands at each place of a splice.
 module _ (low high : ℕ) (new rs : List OptionRecord) (l : low ≤ length rs) where
@@ -45,21 +45,28 @@ module _ (low high : ℕ) (new rs : List OptionRecord) (l : low ≤ length rs) w
       ∙ (past (length new + (i - low - length new))
       ∙ (getD-append-add new (drop high rs) (i - low - length new) none ∙ getD-drop high rs (i - low - length new) none))
 
--- Numbers in pairs: half as many ranges, each from its pair.
-pub length-ranges : (l : List ℕ) → length (rangesIn l) ≡ length l / 2
+-- Numbers in threes: a third as many ranges, each from its three.
+pub length-ranges : (l : List ℕ) → length (rangesIn l) ≡ length l / 3
 length-ranges [] = refl
 length-ranges (a ∷ []) = refl
-length-ranges (a ∷ b ∷ l) = omega (arith, length-ranges l)
+length-ranges (a ∷ b ∷ []) = refl
+length-ranges (a ∷ b ∷ c ∷ l) = omega (arith, length-ranges l)
+
+-- The record of a number and three others.
+abbrev pub recordAt : ℕ → ℕ → ℕ → ℕ → OptionRecord
+recordAt n home start len = record { number = n; home = homeOf home; spare = 0; start = start; len = len }
 
 pub range-at : (n : ℕ) (l : List ℕ) (k : ℕ) → k < length (rangesIn l)
-    → getD (map (recordOf n) (rangesIn l)) k none ≡ record { number = n; spare = 0; start = getD l (k * 2) 0; len = getD l (k * 2 + 1) 0 }
+    → getD (map (recordOf n) (rangesIn l)) k none ≡ recordAt n (getD l (k * 3) 0) (getD l (k * 3 + 1) 0) (getD l (k * 3 + 2) 0)
 range-at n [] k h = absurd (omega arith)
 range-at n (a ∷ []) k h = absurd (omega arith)
-range-at n (a ∷ b ∷ l) zero h = refl
-range-at n (a ∷ b ∷ l) (suc k) h =
-    let e : suc k * 2 ≡ suc (suc (k * 2)) = omega arith in
-    let f : suc (suc (k * 2)) + 1 ≡ suc (suc (k * 2 + 1)) = omega arith in
-    rw (e, f) (range-at n l k (omega arith))
+range-at n (a ∷ b ∷ []) k h = absurd (omega arith)
+range-at n (a ∷ b ∷ c ∷ l) zero h = refl
+range-at n (a ∷ b ∷ c ∷ l) (suc k) h =
+    let e : suc k * 3 ≡ suc (suc (suc (k * 3))) = omega arith in
+    let f : suc (suc (suc (k * 3))) + 1 ≡ suc (suc (suc (k * 3 + 1))) = omega arith in
+    let g : suc (suc (suc (k * 3))) + 2 ≡ suc (suc (suc (k * 3 + 2))) = omega arith in
+    rw (e, f, g) (range-at n l k (omega arith))
 
 -- The splice of a packet's records with the records of ranges: its length, and where each of its records comes from.
 module _ (p : Packet) (n low high : ℕ) (l : List ℕ) (low-in : low ≤ length (recordsOf p)) where
@@ -69,10 +76,10 @@ module _ (p : Packet) (n low high : ℕ) (l : List ℕ) (low-in : low ≤ length
   abbrev whole : List OptionRecord
   whole = spliced low high new (recordsOf p)
 
-  new-long : length new ≡ length l / 2
+  new-long : length new ≡ length l / 3
   new-long = length-map (rangesIn l) (recordOf n) ∙ length-ranges l
 
-  pub whole-long : length whole ≡ low + length l / 2 + (length (recordsOf p) - high)
+  pub whole-long : length whole ≡ low + length l / 3 + (length (recordsOf p) - high)
   whole-long = omega (arith, length-spliced low high new (recordsOf p) low-in, new-long)
 
   -- A record in use stands in the array at its place.
@@ -82,17 +89,17 @@ module _ (p : Packet) (n low high : ℕ) (l : List ℕ) (low-in : low ≤ length
   pub from-lower : (i : ℕ) → i < low → getD (p .options) i none ≡ getD whole i none
   from-lower i h = sym (at-lower low high new (recordsOf p) low-in i h ∙ in-array i (omega arith))
 
-  pub from-new : (i : ℕ) → low ≤ i → i < low + length l / 2
-      → record { number = n; spare = 0; start = getD l ((i - low) * 2) 0; len = getD l ((i - low) * 2 + 1) 0 } ≡ getD whole i none
+  pub from-new : (i : ℕ) → low ≤ i → i < low + length l / 3
+      → recordAt n (getD l ((i - low) * 3) 0) (getD l ((i - low) * 3 + 1) 0) (getD l ((i - low) * 3 + 2) 0) ≡ getD whole i none
   from-new i h k =
       sym (at-new low high new (recordsOf p) low-in i h (omega (arith, new-long)) ∙ range-at n l (i - low) (omega (arith, length-ranges l)))
 
-  pub from-higher : (i : ℕ) → low + length l / 2 ≤ i → i < low + length l / 2 + (length (recordsOf p) - high)
-      → getD (p .options) (high + (i - (low + length l / 2))) none ≡ getD whole i none
+  pub from-higher : (i : ℕ) → low + length l / 3 ≤ i → i < low + length l / 3 + (length (recordsOf p) - high)
+      → getD (p .options) (high + (i - (low + length l / 3))) none ≡ getD whole i none
   from-higher i h k =
-      let at : i - low - length new ≡ i - (low + length l / 2) = omega (arith, new-long) in
+      let at : i - low - length new ≡ i - (low + length l / 3) = omega (arith, new-long) in
       sym (at-higher low high new (recordsOf p) low-in i (omega (arith, new-long))
-      ∙ (ap (λ (m : ℕ). getD (recordsOf p) (high + m) none) at ∙ in-array (high + (i - (low + length l / 2))) (omega arith)))
+      ∙ (ap (λ (m : ℕ). getD (recordsOf p) (high + m) none) at ∙ in-array (high + (i - (low + length l / 3))) (omega arith)))
 
 -- A place past the end is the end.
 module _ (rs : List OptionRecord) (used low : ℕ) (u : used ≡ length rs) where

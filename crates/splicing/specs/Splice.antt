@@ -1,16 +1,19 @@
 -- A packet by the list of its records, and the list with new records in the place of some.
 use Prim.Native.Nat.{ℕ, _+_, _-_, _≤_}
 use mathlib.Core.Path.{_≡_}
+use mathlib.Core.Bool.{Bool, false}
 use mathlib.Core.List.{List, [], _∷_, _++_}
 use lib.ListN.{length, take, drop, replicate}
-use lib.Dec.{ltb}
-use Rattle.ground.specs.Choice.{pick}
+use lib.Dec.{ltb, eqb}
+use Rattle.ground.specs.Choice.{pick, either}
 use Rattle.refusal.specs.Answer.{Answer, given, refused}
 use Rattle.packet.specs.Limits.{maxOptions}
 use Rattle.packet.specs.Packet.{none, recordsOf}
 use Rattle.packet.specs.declared.Packet.{Packet}
 use Rattle.packet.specs.declared.OptionRecord.{OptionRecord}
 use Rattle.packet.specs.declared.Range.{Range}
+use Rattle.packet.specs.declared.Home.{Home}
+use Rattle.packet.specs.declared.Home.the-variants.{Datagram, Edits}
 
 -- The packet of a header, a token, a list of records and a payload: the records in the array's first places, the empty record in
 -- the others.
@@ -34,13 +37,29 @@ roomy p rs = pick (ltb maxOptions (length rs)) (refused 6) (given (withRecords p
 
 -- The record of a number and a range.
 abbrev pub recordOf : ℕ → Range → OptionRecord
-recordOf n range = record { number = n; spare = 0; start = range .start; len = range .len }
+recordOf n range = record { number = n; home = range .home; spare = 0; start = range .start; len = range .len }
 
--- The ranges that numbers in pairs stand for, each a start and then a length; a number left over at the end stands for none.
+-- The home that a number stands for: 0 for the datagram, 1 for the edit store; `homed` lets no other number through.
+abbrev pub homeOf : ℕ → Home
+homeOf n = pick (eqb n 0) Datagram Edits
+
+-- The ranges that numbers in threes stand for, each a home, a start and a length; numbers left over at the end stand for none.
 abbrev pub rangesIn : List ℕ → List Range
 rangesIn [] = []
-rangesIn (start ∷ []) = []
-rangesIn (start ∷ len ∷ rest) = record { start = start; len = len } ∷ rangesIn rest
+rangesIn (home ∷ []) = []
+rangesIn (home ∷ start ∷ []) = []
+rangesIn (home ∷ start ∷ len ∷ rest) = record { home = homeOf home; start = start; len = len } ∷ rangesIn rest
+
+-- The home of some range is neither 0 nor 1.
+abbrev pub homeless : List ℕ → Bool
+homeless [] = false
+homeless (home ∷ []) = false
+homeless (home ∷ start ∷ []) = false
+homeless (home ∷ start ∷ len ∷ rest) = either (ltb 1 home) (homeless rest)
+
+-- An edit with the ranges that numbers stand for; a home that is neither 0 nor 1 gives 11.
+abbrev pub homed : List ℕ → (List Range → Answer Packet) → Answer Packet
+homed l edit = pick (homeless l) (refused 11) (edit (rangesIn l))
 
 -- The records before a place, new ones, and those from another place on.
 abbrev pub spliced : ℕ → ℕ → List OptionRecord → List OptionRecord → List OptionRecord

@@ -1,4 +1,5 @@
 // Records of a packet replaced by new ones: what every edit of options does, once it knows between which places.
+use packet::Home;
 use packet::OptionRecord;
 use packet::Packet;
 use packet::limits::MAX_OPTIONS;
@@ -12,7 +13,7 @@ ghost use Rattle.refusal.specs.Answer.{given, refused};
 ghost use Rattle.refusal.specs.Number.{numberOf};
 ghost use Rattle.packet.specs.Packet.{recordsOf};
 ghost use Rattle.splicing.specs.Edited.{Edits};
-ghost use Rattle.splicing.specs.Splice.{withRecords, roomy, recordOf, rangesIn, spliced, Fits};
+ghost use Rattle.splicing.specs.Splice.{withRecords, roomy, recordOf, homeOf, rangesIn, homeless, homed, spliced, Fits};
 
 // What an edit answers. The packet of a refused edit is the one that came.
 pub struct Edited {
@@ -41,14 +42,18 @@ pub fn done(packet: Packet) -> Edited
 }
 
 // The packet with the records of ranges in the place of those from `low` up to `high`, where there is room for them. The ranges
-// are numbers in pairs, a start and then a length; a number left over at the end names none.
+// are numbers in threes, a home, a start and a length; numbers left over at the end name none. The homes are judged before the
+// room.
 pub fn spliced(packet: Packet, low: usize, high: usize, number: u16, ranges: &[u32]) -> Edited
-    ensures { λ r. ⌜ Edits packet (roomy packet (spliced low high (map (recordOf number) (rangesIn (now (ranges .entry)))) (recordsOf packet))) r ⌝ }
+    ensures { λ r. ⌜ Edits packet (homed (now (ranges .entry)) (λ new. roomy packet (spliced low high (map (recordOf number) new) (recordsOf packet)))) r ⌝ }
 {
+    if homeless(ranges) {
+        return refused(packet, Refusal::BadRecord);
+    }
     let used = packet.option_count();
     let from = least(low, used);
     let to = least(high, used);
-    let count = from + ranges.len() / 2 + (used - to);
+    let count = from + ranges.len() / 3 + (used - to);
     if MAX_OPTIONS < count {
         return refused(packet, Refusal::TooManyOptions);
     }
@@ -65,12 +70,12 @@ fn filled(
     number: u16,
     ranges: &[u32],
 ) -> Packet
-    requires { ⌜ Fits packet low high (length (now ranges) / 2) count ⌝ }
+    requires { ⌜ Fits packet low high (length (now ranges) / 3) count ⌝ }
     ensures { λ r. ⌜ r ≡ withRecords packet (spliced low high (map (recordOf number) (rangesIn (now (ranges .entry)))) (recordsOf packet)) ⌝ }
 {
     // Taken out by itself: an index into the packet's own array would have the whole packet copied.
     let options = packet.options;
-    let end = low + ranges.len() / 2;
+    let end = low + ranges.len() / 3;
     let mut records = [OptionRecord::EMPTY; MAX_OPTIONS];
     let mut i = 0;
     while i < count {
@@ -78,12 +83,14 @@ fn filled(
             records[i] = options[i];
             i = i + 1;
         } else if i < end {
-            let at = (i - low) * 2;
+            let at = (i - low) * 3;
+            let home = home_of(ranges[at]);
             records[i] = OptionRecord {
                 number,
+                home,
                 spare: 0,
-                start: ranges[at],
-                len: ranges[at + 1],
+                start: ranges[at + 1],
+                len: ranges[at + 2],
             };
             i = i + 1;
         } else {
@@ -95,6 +102,31 @@ fn filled(
     packet.count = count;
     packet.options = records;
     packet
+}
+
+// The home that a number stands for, 0 or 1.
+fn home_of(number: u32) -> Home
+    ensures { λ r. ⌜ r ≡ homeOf number ⌝ }
+{
+    if number == 0 {
+        return Home::Datagram;
+    }
+    Home::Edits
+}
+
+// Whether the home of some range is a number that stands for no store.
+fn homeless(ranges: &[u32]) -> bool
+    ensures { λ r. ⌜ r ≡ homeless (now (ranges .entry)) ⌝ }
+{
+    let count = ranges.len() / 3;
+    let mut i = 0;
+    while i < count {
+        if 1 < ranges[i * 3] {
+            return true;
+        }
+        i = i + 1;
+    }
+    false
 }
 
 // The smaller of two numbers.

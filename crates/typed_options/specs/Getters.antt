@@ -8,7 +8,7 @@ use Rattle.refusal.specs.Answer.{Answer, given, refused, onward}
 use Rattle.refusal.specs.Number.{numberOf}
 use Rattle.option_value.specs.Uint.{Padded, withZeros, readUint}
 use Rattle.tables.specs.Numbers.{contentFormats}
-use Rattle.packet.specs.Packet.{valueOf, recordsOf, ofNumber}
+use Rattle.packet.specs.Packet.{Stores, valueOf, recordsOf, ofNumber}
 use Rattle.packet.specs.declared.Packet.{Packet}
 use Rattle.packet.specs.declared.OptionRecord.{OptionRecord}
 use Rattle.typed_options.specs.declared.ContentFormat.{ContentFormat}
@@ -28,11 +28,11 @@ formatOf (given n) = pick (listed (n .value) contentFormats) (Format (n .value) 
 formatOf (refused k) = None 0
 
 -- The content format: the first record of number 12 counts, and an absent one reads as none with no zeros.
-unfoldable pub formatIn : List ℕ → Packet → ContentFormat
+unfoldable pub formatIn : Stores → Packet → ContentFormat
 formatIn s p = onFirst (ofNumber 12 (recordsOf p)) (None 0) (λ r. formatOf (readUint 2 (valueOf s r)))
 
 -- The promise of the getter of the content format.
-abbrev pub GetsFormat : List ℕ → Packet → ContentFormat → Type 0
+abbrev pub GetsFormat : Stores → Packet → ContentFormat → Type 0
 GetsFormat s p r = r ≡ formatIn s p
 
 -- A number with its zeros, which may be absent.
@@ -41,7 +41,7 @@ pub data Found : Type 0 where
   absent : Found
 
 -- Observe: the first record of number 6 counts; it is absent, or a number, or over-long (13).
-unfoldable pub observeIn : List ℕ → Packet → Answer Found
+unfoldable pub observeIn : Stores → Packet → Answer Found
 observeIn s p = onFirst (ofNumber 6 (recordsOf p)) (given absent) (λ r. onward (readUint 4 (valueOf s r)) (λ n. given (number n)))
 
 -- The answer of the getter of Observe.
@@ -51,5 +51,5 @@ observed Unset = given absent
 observed (Refused e) = refused (numberOf e)
 
 -- The promise of the getter of Observe.
-abbrev pub GetsObserve : List ℕ → Packet → Observe → Type 0
+abbrev pub GetsObserve : Stores → Packet → Observe → Type 0
 GetsObserve s p r = observed r ≡ observeIn s p

@@ -8,31 +8,41 @@ use native.Mathlib.Omega.{arith}
 use lib.ListN.{length, getD, set, replicate, length-append}
 use lib.Seq.{set-at}
 use lib.Dec.{ltb}
-use borrow.Author.Tests.{lt-ltb, le-ltb, ltb-false}
+use borrow.Author.Tests.{ltb-false}
 use Rattle.ground.proofs.Choice.{by-eq, neither, none-of, either-right}
 use Rattle.packet.specs.Packet.{none}
 use Rattle.packet.specs.declared.OptionRecord.{OptionRecord}
 use Rattle.packet.specs.declared.Packet.{Packet}
-use Rattle.unflat.specs.Unflat.{badHead, badNumbers, badFlat, headerIn, rangeAt, recordAt, recordsIn}
+use Rattle.unflat.specs.Unflat.{badHead, badRecord, badNumbers, badFlat, headerIn, rangeAt, recordAt, recordsIn}
 
--- One record with a number over 65535 makes all bad.
-pub bad-by : (l : List ℕ) (n i : ℕ) → i < n → 65535 < getD l (9 + 3 * i) 0 → badNumbers l n ≡ true
+-- One bad record makes all bad.
+pub bad-by : (l : List ℕ) (n i : ℕ) → i < n → badRecord l (11 + 4 * i) ≡ true → badNumbers l n ≡ true
 bad-by l zero i h b = let z : _≡_ {A = ℕ} 0 1 = omega arith in cc
 bad-by l (suc n) i h b =
     by-eq i n
-    (λ e. either-right (badNumbers l n) (ltb 65535 (getD l (9 + 3 * n) 0)) (lt-ltb 65535 (getD l (9 + 3 * n) 0) (rw e at b)))
+    (λ e. either-right (badNumbers l n) (badRecord l (11 + 4 * n)) (rw e at b))
     (λ e. rw (bad-by l n i (omega arith) b))
 
-pub good-more : (l : List ℕ) (i : ℕ) → badNumbers l i ≡ false → getD l (9 + 3 * i) 0 ≤ 65535 → badNumbers l (i + 1) ≡ false
-good-more l i e h = rw add-one (none-of (badNumbers l i) (ltb 65535 (getD l (9 + 3 * i) 0)) e (le-ltb 65535 (getD l (9 + 3 * i) 0) h))
+pub good-more : (l : List ℕ) (i : ℕ) → badNumbers l i ≡ false → badRecord l (11 + 4 * i) ≡ false → badNumbers l (i + 1) ≡ false
+good-more l i e h = rw add-one (none-of (badNumbers l i) (badRecord l (11 + 4 * i)) e h)
 
-pub number-small : (l : List ℕ) (n i : ℕ) → badNumbers l n ≡ false → i < n → getD l (9 + 3 * i) 0 ≤ 65535
-number-small l zero i e h = omega arith
-number-small l (suc n) i e h =
-    let both = neither (badNumbers l n) (ltb 65535 (getD l (9 + 3 * n) 0)) e in
+pub good-record : (l : List ℕ) (n i : ℕ) → badNumbers l n ≡ false → i < n → badRecord l (11 + 4 * i) ≡ false
+good-record l zero i e h = let z : _≡_ {A = ℕ} 0 1 = omega arith in cc
+good-record l (suc n) i e h =
+    let both = neither (badNumbers l n) (badRecord l (11 + 4 * n)) e in
     by-eq i n
-    (λ q. rw q (ltb-false 65535 (getD l (9 + 3 * n) 0) (both .1)))
-    (λ q. number-small l n i (both .0) (omega arith))
+    (λ q. rw q (both .1))
+    (λ q. good-record l n i (both .0) (omega arith))
+
+-- A good record: the fields hold its number and its home.
+module _ (l : List ℕ) (at : ℕ) (e : badRecord l at ≡ false) where
+  pub number-small : getD l at 0 ≤ 65535
+  unfolding badRecord
+  number-small = ltb-false 65535 (getD l at 0) (neither (ltb 65535 (getD l at 0)) (ltb 1 (getD l (at + 1) 0)) e .0)
+
+  pub home-small : getD l (at + 1) 0 ≤ 1
+  unfolding badRecord
+  home-small = ltb-false 1 (getD l (at + 1) 0) (neither (ltb 65535 (getD l at 0)) (ltb 1 (getD l (at + 1) 0)) e .1)
 
 -- The fields hold their numbers.
 pub record Small (l : List ℕ) : Type 0 where
@@ -40,7 +50,9 @@ pub record Small (l : List ℕ) : Type 0 where
   pub type : getD l 1 0 ≤ 3
   pub code : getD l 2 0 ≤ 255
   pub id : getD l 3 0 ≤ 65535
-  pub count : getD l 8 0 ≤ 128
+  pub token : getD l 4 0 ≤ 1
+  pub payload : getD l 7 0 ≤ 1
+  pub count : getD l 10 0 ≤ 128
 
 pub small : (l : List ℕ) → badHead l ≡ false → Small l
 unfolding badHead
@@ -48,32 +60,36 @@ small l e =
     let a = neither (ltb 255 (getD l 0 0)) _ e in
     let b = neither (ltb 3 (getD l 1 0)) _ (a .1) in
     let c = neither (ltb 255 (getD l 2 0)) _ (b .1) in
-    let d = neither (ltb 65535 (getD l 3 0)) (ltb 128 (getD l 8 0)) (c .1) in
+    let d = neither (ltb 65535 (getD l 3 0)) _ (c .1) in
+    let f = neither (ltb 1 (getD l 4 0)) _ (d .1) in
+    let g = neither (ltb 1 (getD l 7 0)) (ltb 128 (getD l 10 0)) (f .1) in
     record {
       version = ltb-false 255 (getD l 0 0) (a .0);
       type = ltb-false 3 (getD l 1 0) (b .0);
       code = ltb-false 255 (getD l 2 0) (c .0);
       id = ltb-false 65535 (getD l 3 0) (d .0);
-      count = ltb-false 128 (getD l 8 0) (d .1);
+      token = ltb-false 1 (getD l 4 0) (f .0);
+      payload = ltb-false 1 (getD l 7 0) (g .0);
+      count = ltb-false 128 (getD l 10 0) (g .1);
     }
 
 -- A flat form: its length, its head and its records.
 pub record Good (l : List ℕ) : Type 0 where
-  pub head : 9 ≤ length l
+  pub head : 11 ≤ length l
   pub fields : badHead l ≡ false
-  pub records : 9 + 3 * getD l 8 0 ≤ length l
-  pub numbers : badNumbers l (getD l 8 0) ≡ false
+  pub records : 11 + 4 * getD l 10 0 ≤ length l
+  pub numbers : badNumbers l (getD l 10 0) ≡ false
 
 pub good : (l : List ℕ) → badFlat l ≡ false → Good l
 unfolding badFlat
 good l e =
-    let a = neither (ltb (length l) 9) _ e in
+    let a = neither (ltb (length l) 11) _ e in
     let b = neither (badHead l) _ (a .1) in
-    let c = neither (ltb (length l) (9 + 3 * getD l 8 0)) (badNumbers l (getD l 8 0)) (b .1) in
+    let c = neither (ltb (length l) (11 + 4 * getD l 10 0)) (badNumbers l (getD l 10 0)) (b .1) in
     record {
-      head = ltb-false (length l) 9 (a .0);
+      head = ltb-false (length l) 11 (a .0);
       fields = b .0;
-      records = ltb-false (length l) (9 + 3 * getD l 8 0) (c .0);
+      records = ltb-false (length l) (11 + 4 * getD l 10 0) (c .0);
       numbers = c .1;
     }
 
@@ -83,13 +99,13 @@ records-length l (suc n) = simp length-append (omega (arith, records-length l n)
 
 -- One more record in the array.
 filled : (l : List ℕ) (records : List OptionRecord) (i : ℕ) → i < 128 → records ≡ recordsIn l i ++ replicate (128 - i) none
-    → set records i (recordAt l (9 + 3 * i)) ≡ recordsIn l (i + 1) ++ replicate (128 - (i + 1)) none
+    → set records i (recordAt l (11 + 4 * i)) ≡ recordsIn l (i + 1) ++ replicate (128 - (i + 1)) none
 filled l records i h e =
     let left : 128 - i ≡ suc (128 - (i + 1)) = omega arith in
-    let next : recordsIn l (i + 1) ≡ recordsIn l i ++ (recordAt l (9 + 3 * i) ∷ []) = rw (add-one i) in
+    let next : recordsIn l (i + 1) ≡ recordsIn l i ++ (recordAt l (11 + 4 * i) ∷ []) = rw (add-one i) in
     rw (e, left)
-    (set-at (recordsIn l i) none (replicate (128 - (i + 1)) none) (recordAt l (9 + 3 * i)) i (records-length l i)
-    ∙ (sym (append-assoc (recordsIn l i) (recordAt l (9 + 3 * i) ∷ []) (replicate (128 - (i + 1)) none))
+    (set-at (recordsIn l i) none (replicate (128 - (i + 1)) none) (recordAt l (11 + 4 * i)) i (records-length l i)
+    ∙ (sym (append-assoc (recordsIn l i) (recordAt l (11 + 4 * i) ∷ []) (replicate (128 - (i + 1)) none))
     ∙ ap (λ (rs : List OptionRecord). rs ++ replicate (128 - (i + 1)) none) (sym next)))
 
 -- The packet of a flat form as far as its first records.
@@ -98,13 +114,13 @@ upTo l i =
     record {
       header = headerIn l;
       token = rangeAt l 4;
-      count = getD l 8 0;
+      count = getD l 10 0;
       options = recordsIn l i ++ replicate (128 - i) none;
-      payload = rangeAt l 6;
+      payload = rangeAt l 7;
     }
 
 pub one-more : (l : List ℕ) (p : Packet) (i : ℕ) → i < 128 → p ≡ upTo l i
-    → record { header = p .header; token = p .token; count = p .count; options = set (p .options) i (recordAt l (9 + 3 * i)); payload = p .payload } ≡ upTo l (i + 1)
+    → record { header = p .header; token = p .token; count = p .count; options = set (p .options) i (recordAt l (11 + 4 * i)); payload = p .payload } ≡ upTo l (i + 1)
 one-more l p i h e =
     let options = filled l (p .options) i h (ap (λ (q : Packet). q .options) e) in
     λ j. record { header = e j .header; token = e j .token; count = e j .count; options = options j; payload = e j .payload }

@@ -3,7 +3,7 @@ use Prim.Native.Nat.{ℕ, zero, suc, _+_, _-_, _*_}
 use mathlib.Core.Bool.{Bool, false}
 use mathlib.Core.List.{List, [], _∷_, _++_}
 use lib.ListN.{length, getD, replicate}
-use lib.Dec.{ltb}
+use lib.Dec.{ltb, eqb}
 use Rattle.ground.specs.Choice.{pick, either}
 use Rattle.refusal.specs.Answer.{Answer, given, refused, outcome, Beside}
 use Rattle.class.specs.Class.{classOf}
@@ -14,25 +14,34 @@ use Rattle.packet.specs.Packet.{none}
 use Rattle.packet.specs.declared.Packet.{Packet}
 use Rattle.packet.specs.declared.OptionRecord.{OptionRecord}
 use Rattle.packet.specs.declared.Range.{Range}
+use Rattle.packet.specs.declared.Home.{Home}
+use Rattle.packet.specs.declared.Home.the-variants.{Datagram, Edits}
 use Rattle.unflat.specs.declared.Taken.{Taken}
 
--- Version over 255, type over 3, code byte over 255, id over 65535, or over 128 records.
+-- Version over 255, type over 3, code byte over 255, id over 65535, a home of token or payload other than 0 and 1, or over
+-- 128 records.
 unfoldable pub badHead : List ℕ → Bool
 badHead l =
     either (ltb 255 (getD l 0 0))
     (either (ltb 3 (getD l 1 0))
-    (either (ltb 255 (getD l 2 0)) (either (ltb 65535 (getD l 3 0)) (ltb maxOptions (getD l 8 0)))))
+    (either (ltb 255 (getD l 2 0))
+    (either (ltb 65535 (getD l 3 0))
+    (either (ltb 1 (getD l 4 0)) (either (ltb 1 (getD l 7 0)) (ltb maxOptions (getD l 10 0)))))))
 
--- One of the first records has a number over 65535.
+-- The record whose number stands at a place has a number over 65535, or a home other than 0 and 1.
+unfoldable pub badRecord : List ℕ → ℕ → Bool
+badRecord l at = either (ltb 65535 (getD l at 0)) (ltb 1 (getD l (at + 1) 0))
+
+-- One of the first records is bad.
 abbrev pub badNumbers : List ℕ → ℕ → Bool
 badNumbers l zero = false
-badNumbers l (suc n) = either (badNumbers l n) (ltb 65535 (getD l (9 + 3 * n) 0))
+badNumbers l (suc n) = either (badNumbers l n) (badRecord l (11 + 4 * n))
 
--- Numbers that are no packet's flat form: fewer than the 9 of the head, or than 9 + 3·count, or one that its field does not hold.
+-- Numbers that are no packet's flat form: fewer than the 11 of the head, or than 11 + 4·count, or one that its field does not hold.
 unfoldable pub badFlat : List ℕ → Bool
 badFlat l =
-    either (ltb (length l) 9)
-    (either (badHead l) (either (ltb (length l) (9 + 3 * getD l 8 0)) (badNumbers l (getD l 8 0))))
+    either (ltb (length l) 11)
+    (either (badHead l) (either (ltb (length l) (11 + 4 * getD l 10 0)) (badNumbers l (getD l 10 0))))
 
 -- The header of a flat form.
 unfoldable pub headerIn : List ℕ → Header
@@ -44,18 +53,23 @@ headerIn l =
       «message_id» = getD l 3 0;
     }
 
--- The range whose start stands at a place.
+-- The home that a number stands for: 0 for the datagram, 1 for the edit store.
+unfoldable pub homeOf : ℕ → Home
+homeOf n = pick (eqb n 0) Datagram Edits
+
+-- The range whose home stands at a place.
 abbrev pub rangeAt : List ℕ → ℕ → Range
-rangeAt l at = record { start = getD l at 0; len = getD l (at + 1) 0 }
+rangeAt l at = record { home = homeOf (getD l at 0); start = getD l (at + 1) 0; len = getD l (at + 2) 0 }
 
 -- The record whose number stands at a place.
 abbrev pub recordAt : List ℕ → ℕ → OptionRecord
-recordAt l at = record { number = getD l at 0; spare = 0; start = getD l (at + 1) 0; len = getD l (at + 2) 0 }
+recordAt l at =
+    record { number = getD l at 0; home = homeOf (getD l (at + 1) 0); spare = 0; start = getD l (at + 2) 0; len = getD l (at + 3) 0 }
 
 -- The first records, in their order.
 abbrev pub recordsIn : List ℕ → ℕ → List OptionRecord
 recordsIn l zero = []
-recordsIn l (suc n) = recordsIn l n ++ (recordAt l (9 + 3 * n) ∷ [])
+recordsIn l (suc n) = recordsIn l n ++ (recordAt l (11 + 4 * n) ∷ [])
 
 -- The packet of a flat form: the empty record stands past the count.
 unfoldable pub packetIn : List ℕ → Packet
@@ -63,9 +77,9 @@ packetIn l =
     record {
       header = headerIn l;
       token = rangeAt l 4;
-      count = getD l 8 0;
-      options = recordsIn l (getD l 8 0) ++ replicate (maxOptions - getD l 8 0) none;
-      payload = rangeAt l 6;
+      count = getD l 10 0;
+      options = recordsIn l (getD l 10 0) ++ replicate (maxOptions - getD l 10 0) none;
+      payload = rangeAt l 7;
     }
 
 -- The packet of numbers; those that are no flat form give BadRecord (11).

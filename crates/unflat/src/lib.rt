@@ -2,6 +2,7 @@
 use class::MessageClass;
 use header::Header;
 use header::MessageType;
+use packet::Home;
 use packet::OptionRecord;
 use packet::Packet;
 use packet::Range;
@@ -11,10 +12,10 @@ use refusal::Refusal;
 ghost use mathlib.Core.Path.{_≡_};
 ghost use mathlib.Core.Bool.{Bool};
 ghost use Prim.Native.Nat.{_+_, _*_, _≤_};
-ghost use lib.ListN.{length, getD};
+ghost use lib.ListN.{length};
 ghost use Rattle.refusal.specs.Answer.{beside};
 ghost use Rattle.packet.specs.Packet.{newPacket};
-ghost use Rattle.unflat.specs.Unflat.{badHead, badNumbers, badFlat, headerIn, rangeAt, recordAt, packetIn, unflat, taken};
+ghost use Rattle.unflat.specs.Unflat.{badHead, badRecord, badNumbers, badFlat, headerIn, homeOf, rangeAt, recordAt, packetIn, unflat, taken};
 
 // What taking a packet out of numbers answers. Beside a refusal stands the new packet.
 pub struct Taken {
@@ -42,22 +43,22 @@ pub fn packet_in(numbers: &[u32]) -> Taken
 fn bad_flat(numbers: &[u32]) -> bool
     ensures { λ r. ⌜ r ≡ badFlat (now (numbers .entry)) ⌝ }
 {
-    if numbers.len() < 9 {
+    if numbers.len() < 11 {
         return true;
     }
     if bad_head(numbers) {
         return true;
     }
-    let count = numbers[8] as usize;
-    if numbers.len() < 9 + 3 * count {
+    let count = numbers[10] as usize;
+    if numbers.len() < 11 + 4 * count {
         return true;
     }
     bad_numbers(numbers, count)
 }
 
-// Whether one of the first numbers is more than its field holds.
+// Whether one of the first numbers is more than its field holds, or no home's.
 fn bad_head(numbers: &[u32]) -> bool
-    requires { ⌜ 9 ≤ length (now numbers) ⌝ }
+    requires { ⌜ 11 ≤ length (now numbers) ⌝ }
     ensures { λ r. ⌜ r ≡ badHead (now (numbers .entry)) ⌝ }
 {
     if 255 < numbers[0] {
@@ -72,22 +73,39 @@ fn bad_head(numbers: &[u32]) -> bool
     if 65535 < numbers[3] {
         return true;
     }
-    (MAX_OPTIONS as u32) < numbers[8]
+    if 1 < numbers[4] {
+        return true;
+    }
+    if 1 < numbers[7] {
+        return true;
+    }
+    (MAX_OPTIONS as u32) < numbers[10]
 }
 
-// Whether one of so many records has a number over 65535.
+// Whether one of so many records is bad.
 fn bad_numbers(numbers: &[u32], count: usize) -> bool
-    requires { ⌜ 9 + 3 * count ≤ length (now numbers) ⌝ }
+    requires { ⌜ 11 + 4 * count ≤ length (now numbers) ⌝ }
     ensures { λ r. ⌜ r ≡ badNumbers (now (numbers .entry)) count ⌝ }
 {
     let mut i = 0;
     while i < count {
-        if 65535 < numbers[9 + 3 * i] {
+        if bad_record(numbers, 11 + 4 * i) {
             return true;
         }
         i = i + 1;
     }
     false
+}
+
+// Whether the record whose number stands at a place has a number over 65535, or a home that is none.
+fn bad_record(numbers: &[u32], at: usize) -> bool
+    requires { ⌜ at + 4 ≤ length (now numbers) ⌝ }
+    ensures { λ r. ⌜ r ≡ badRecord (now (numbers .entry)) at ⌝ }
+{
+    if 65535 < numbers[at] {
+        return true;
+    }
+    1 < numbers[at + 1]
 }
 
 // The packet of a flat form. Its records are put where they stay: an array of their own would be copied into it.
@@ -97,16 +115,18 @@ fn good_packet(numbers: &[u32]) -> Packet
 {
     let header = header_in(numbers);
     let token = range_in(numbers, 4);
-    let payload = range_in(numbers, 6);
-    let count = numbers[8] as usize;
-    let mut packet = Packet::new();
-    packet.header = header;
-    packet.token = token;
-    packet.count = count;
-    packet.payload = payload;
+    let payload = range_in(numbers, 7);
+    let count = numbers[10] as usize;
+    let mut packet = Packet {
+        header,
+        token,
+        count,
+        options: [OptionRecord::EMPTY; MAX_OPTIONS],
+        payload,
+    };
     let mut i = 0;
     while i < count {
-        let record = record_in(numbers, 9 + 3 * i);
+        let record = record_in(numbers, 11 + 4 * i);
         packet.options[i] = record;
         i = i + 1;
     }
@@ -115,7 +135,7 @@ fn good_packet(numbers: &[u32]) -> Packet
 
 // The header of a flat form.
 fn header_in(numbers: &[u32]) -> Header
-    requires { ⌜ (9 ≤ length (now numbers)) × (badHead (now numbers) ≡ Bool.false) ⌝ }
+    requires { ⌜ (11 ≤ length (now numbers)) × (badHead (now numbers) ≡ Bool.false) ⌝ }
     ensures { λ r. ⌜ r ≡ headerIn (now (numbers .entry)) ⌝ }
 {
     Header {
@@ -126,26 +146,38 @@ fn header_in(numbers: &[u32]) -> Header
     }
 }
 
-// The range whose start stands at a place.
+// The range whose home stands at a place.
 fn range_in(numbers: &[u32], at: usize) -> Range
-    requires { ⌜ at + 2 ≤ length (now numbers) ⌝ }
+    requires { ⌜ at + 3 ≤ length (now numbers) ⌝ }
     ensures { λ r. ⌜ r ≡ rangeAt (now (numbers .entry)) at ⌝ }
 {
     Range {
-        start: numbers[at],
-        len: numbers[at + 1],
+        home: home_of(numbers[at]),
+        start: numbers[at + 1],
+        len: numbers[at + 2],
     }
 }
 
 // The record whose number stands at a place.
 fn record_in(numbers: &[u32], at: usize) -> OptionRecord
-    requires { ⌜ (at + 3 ≤ length (now numbers)) × (getD (now numbers) at 0 ≤ 65535) ⌝ }
+    requires { ⌜ (at + 4 ≤ length (now numbers)) × (badRecord (now numbers) at ≡ Bool.false) ⌝ }
     ensures { λ r. ⌜ r ≡ recordAt (now (numbers .entry)) at ⌝ }
 {
     OptionRecord {
         number: numbers[at] as u16,
+        home: home_of(numbers[at + 1]),
         spare: 0,
-        start: numbers[at + 1],
-        len: numbers[at + 2],
+        start: numbers[at + 2],
+        len: numbers[at + 3],
     }
+}
+
+// The home that a number stands for.
+fn home_of(number: u32) -> Home
+    ensures { λ r. ⌜ r ≡ homeOf number ⌝ }
+{
+    if number == 0 {
+        return Home::Datagram;
+    }
+    Home::Edits
 }

@@ -15,9 +15,9 @@ use Rattle.refusal.specs.Answer.{given, written}
 use Rattle.refusal.specs.declared.Written.{Written}
 use Rattle.laying.specs.Laying.{laidOption, LaysOption}
 use Rattle.laying.proofs.Laid.{option-laid, lays-put}
-use Rattle.packet.specs.Packet.{bytesIn, valueOf}
+use Rattle.packet.specs.Packet.{Stores, storeOf, bytesIn, valueOf}
 use Rattle.packet.specs.Meaning.{optionOf}
-use Rattle.judging.specs.Judge.{falling, badValue, badValues}
+use Rattle.judging.specs.Judge.{lengthsOf, falling, badValue, badValues}
 use Rattle.packet.specs.declared.OptionRecord.{OptionRecord}
 use Rattle.judging.proofs.Good.{value-length}
 use Rattle.judging.proofs.Order.{falls-later}
@@ -28,19 +28,19 @@ unfolding bytesIn
 bytes-at-most s start len = on-le (λ (bs : List ℕ). length bs ≤ len) (start + len) (length s) (λ h. omega (arith, length-take len (drop start s))) (λ h. omega arith)
 
 -- The bytes of the options that are left at an index, after one of the number `before`.
-abbrev pub leftover : List ℕ → List OptionRecord → ℕ → ℕ → List ℕ
+abbrev pub leftover : Stores → List OptionRecord → ℕ → ℕ → List ℕ
 leftover s rs before i = optionsLayout before (map (optionOf s) (drop i rs))
 
 -- Before the option at an index: there is room for what is left, nothing bad is left, and once it is put all is put.
-pub record Putting (s : List ℕ) (rs : List OptionRecord) (old : List ℕ) (from : ℕ) (out : List ℕ) (before next i : ℕ) : Type 0 where
+pub record Putting (s : Stores) (rs : List OptionRecord) (old : List ℕ) (from : ℕ) (out : List ℕ) (before next i : ℕ) : Type 0 where
   pub fits : next + length (leftover s rs before i) ≤ length old
   pub kept : length out ≡ length old
   pub ordered : falling before (drop i rs) ≡ false
-  pub values : badValues (length s) (drop i rs) ≡ false
+  pub values : badValues (lengthsOf s) (drop i rs) ≡ false
   pub whole : (r : ℕ) (new : List ℕ) → Put out next (leftover s rs before i) r new → Put old from (leftover s rs 0 0) r new
 
-module _ (s : List ℕ) (rs : List OptionRecord) (old : List ℕ) (from : ℕ) where
-  pub start : from + length (leftover s rs 0 0) ≤ length old → falling 0 rs ≡ false → badValues (length s) rs ≡ false → Putting s rs old from old 0 from 0
+module _ (s : Stores) (rs : List OptionRecord) (old : List ℕ) (from : ℕ) where
+  pub start : from + length (leftover s rs 0 0) ≤ length old → falling 0 rs ≡ false → badValues (lengthsOf s) rs ≡ false → Putting s rs old from old 0 from 0
   start h o v = record { fits = h; kept = refl; ordered = o; values = v; whole = λ r new p. p }
 
   module _ (out : List ℕ) (before next i : ℕ) (w : Putting s rs old from out before next i) where
@@ -52,11 +52,11 @@ module _ (s : List ℕ) (rs : List OptionRecord) (old : List ℕ) (from : ℕ) w
       rises : before ≤ r .number
       rises = ltb-false (r .number) before (neither (ltb (r .number) before) (falling (r .number) (drop (i + 1) rs)) (ap (falling before) (sym d) ∙ w .ordered) .0)
 
-      good : (badValue (length s) r ≡ false) × (badValues (length s) (drop (i + 1) rs) ≡ false)
-      good = neither (badValue (length s) r) (badValues (length s) (drop (i + 1) rs)) (ap (badValues (length s)) (sym d) ∙ w .values)
+      good : (badValue (lengthsOf s) r ≡ false) × (badValues (lengthsOf s) (drop (i + 1) rs) ≡ false)
+      good = neither (badValue (lengthsOf s) r) (badValues (lengthsOf s) (drop (i + 1) rs)) (ap (badValues (lengthsOf s)) (sym d) ∙ w .values)
 
       short : length (valueOf s r) ≤ 65804
-      short = omega (arith, bytes-at-most s (r .start) (r .len), value-length (length s) r (good .0))
+      short = omega (arith, bytes-at-most (storeOf s (r .home)) (r .start) (r .len), value-length (lengthsOf s) r (good .0))
 
       pub room : next + length (optionLayout before (optionOf s r)) ≤ length out
       room = omega (arith, w .kept, w .fits, simp length-append at (ap length split))

@@ -11,19 +11,19 @@ use Rattle.refusal.specs.Answer.{given, written}
 use Rattle.refusal.specs.declared.Written.{Written}
 use Rattle.placing.specs.Put.{Put}
 use Rattle.placing.proofs.Puts.{put-length, put-put}
-use Rattle.packet.specs.Packet.{recordsOf}
+use Rattle.packet.specs.Packet.{Stores, recordsOf}
 use Rattle.packet.specs.Meaning.{meaning}
-use Rattle.judging.specs.Judge.{badPacket}
+use Rattle.judging.specs.Judge.{lengthsOf, badPacket}
 use Rattle.packet.specs.declared.Packet.{Packet}
 use Rattle.judging.proofs.Good.{Good, good}
 use Rattle.laying.specs.Laying.{laid, headLayout, laidHeader, LaysHeader, LaysPayload}
 use Rattle.laying.proofs.Pieces.{layout-pieces}
 use Rattle.laying.proofs.Laid.{laid-room, head-length, header-laid, lays-put}
 use Rattle.writing.specs.Writing.{sent, bytesWritten}
-use Rattle.writing.proofs.Sizes.{bytes-exactly, message-length}
+use Rattle.writing.proofs.Sizes.{range-exactly, message-length}
 use Rattle.writing.proofs.Options.{leftover, Putting, start}
 
-module _ (strict : Bool) (s : List ℕ) (p : Packet) (old : List ℕ) (e : badPacket (length s) p ≡ false) (room : length (bytesWritten strict s p) ≤ length old) where
+module _ (strict : Bool) (s : Stores) (p : Packet) (old : List ℕ) (e : badPacket (lengthsOf s) p ≡ false) (room : length (bytesWritten strict s p) ≤ length old) where
   -- What is sent, its token, and its options.
   abbrev message : Message
   message = meaning s (sent strict p)
@@ -31,8 +31,8 @@ module _ (strict : Bool) (s : List ℕ) (p : Packet) (old : List ℕ) (e : badPa
   abbrev options : List ℕ
   options = leftover s (recordsOf p) 0 0
 
-  sound : Good (length s) p
-  sound = good (length s) p e
+  sound : Good (lengthsOf s) p
+  sound = good (lengthsOf s) p e
 
   -- There is room for the parts of the message.
   parts : 4 + length (message .token) + length options + length (payloadLayout (message .payload)) ≤ length old
@@ -42,7 +42,7 @@ module _ (strict : Bool) (s : List ℕ) (p : Packet) (old : List ℕ) (e : badPa
   pub head-given : laidHeader (p .header) (message .token) (length old) ≡ given (length (headLayout (p .header) (message .token)))
   head-given =
       header-laid (p .header) (message .token) (length old) (sound .version)
-      (omega (arith, bytes-exactly s (p .token .start) (p .token .len) (sound .token), sound .token-length))
+      (omega (arith, range-exactly s (p .token) (sound .token), sound .token-length))
       (omega (arith, parts, head-length (p .header) (message .token)))
 
   module _ (piece : Written) (k : ℕ) (mid : List ℕ) (l : LaysHeader (p .header) (message .token) old piece mid) (w : written piece ≡ given k) where

@@ -1,4 +1,5 @@
 // Writing a packet to bytes, plain and strict (Packet::to_bytes of packet.rs).
+use judging::Lengths;
 use laying::put_header;
 use laying::put_option;
 use laying::put_payload;
@@ -12,79 +13,110 @@ ghost use Prim.Native.Nat.{ℕ, _≤_};
 ghost use lib.ListN.{length};
 ghost use Rattle.refusal.specs.Answer.{given, written};
 ghost use Rattle.placing.specs.Put.{Put};
-ghost use Rattle.judging.specs.Judge.{badPacket};
+ghost use Rattle.packet.specs.Packet.{stores};
+ghost use Rattle.judging.specs.Judge.{lengthsOf, badPacket};
 ghost use Rattle.measuring.specs.declared.Limit.{Limit};
 ghost use Rattle.writing.specs.Writing.{bytesWritten, ToBytes};
 pub use measuring::Limit;
 
 // Writes the bytes of the packet to the start of the output, as the Rust does.
-pub fn to_bytes(packet: Packet, store: &[u8], out: &mut [u8]) -> Written
-    ensures { λ r. ⌜ ToBytes Bool.false Limit.Default packet (now (store .entry)) (now (out .entry)) r (now (out .exit)) ⌝ }
+pub fn to_bytes<'a>(packet: Packet, datagram: &'a [u8], edits: &'a [u8], out: &mut [u8]) -> Written
+    ensures { λ r. ⌜ ToBytes Bool.false Limit.Default packet (stores (now (datagram .entry)) (now (edits .entry))) (now (out .entry)) r (now (out .exit)) ⌝ }
 {
-    to_bytes_in(false, Limit::Default, packet, store, out)
+    to_bytes_in(false, Limit::Default, packet, datagram, edits, out)
 }
 
 // The same, with a limit in the place of Packet::MAX_SIZE.
-pub fn to_bytes_with_limit(packet: Packet, limit: usize, store: &[u8], out: &mut [u8]) -> Written
-    ensures { λ r. ⌜ ToBytes Bool.false (Limit.Given limit) packet (now (store .entry)) (now (out .entry)) r (now (out .exit)) ⌝ }
+pub fn to_bytes_with_limit<'a>(
+    packet: Packet,
+    limit: usize,
+    datagram: &'a [u8],
+    edits: &'a [u8],
+    out: &mut [u8],
+) -> Written
+    ensures { λ r. ⌜ ToBytes Bool.false (Limit.Given limit) packet (stores (now (datagram .entry)) (now (edits .entry))) (now (out .entry)) r (now (out .exit)) ⌝ }
 {
-    to_bytes_in(false, Limit::Given(limit), packet, store, out)
+    to_bytes_in(false, Limit::Given(limit), packet, datagram, edits, out)
 }
 
 // The same, without a limit.
-pub fn to_bytes_unlimited(packet: Packet, store: &[u8], out: &mut [u8]) -> Written
-    ensures { λ r. ⌜ ToBytes Bool.false Limit.Unlimited packet (now (store .entry)) (now (out .entry)) r (now (out .exit)) ⌝ }
+pub fn to_bytes_unlimited<'a>(
+    packet: Packet,
+    datagram: &'a [u8],
+    edits: &'a [u8],
+    out: &mut [u8],
+) -> Written
+    ensures { λ r. ⌜ ToBytes Bool.false Limit.Unlimited packet (stores (now (datagram .entry)) (now (edits .entry))) (now (out .entry)) r (now (out .exit)) ⌝ }
 {
-    to_bytes_in(false, Limit::Unlimited, packet, store, out)
+    to_bytes_in(false, Limit::Unlimited, packet, datagram, edits, out)
 }
 
 // Writes the bytes of a well-formed message, and refuses every other.
-pub fn to_bytes_strict(packet: Packet, store: &[u8], out: &mut [u8]) -> Written
-    ensures { λ r. ⌜ ToBytes Bool.true Limit.Default packet (now (store .entry)) (now (out .entry)) r (now (out .exit)) ⌝ }
+pub fn to_bytes_strict<'a>(
+    packet: Packet,
+    datagram: &'a [u8],
+    edits: &'a [u8],
+    out: &mut [u8],
+) -> Written
+    ensures { λ r. ⌜ ToBytes Bool.true Limit.Default packet (stores (now (datagram .entry)) (now (edits .entry))) (now (out .entry)) r (now (out .exit)) ⌝ }
 {
-    to_bytes_in(true, Limit::Default, packet, store, out)
+    to_bytes_in(true, Limit::Default, packet, datagram, edits, out)
 }
 
 // The same, with a limit in the place of Packet::MAX_SIZE.
-pub fn to_bytes_with_limit_strict(
+pub fn to_bytes_with_limit_strict<'a>(
     packet: Packet,
     limit: usize,
-    store: &[u8],
+    datagram: &'a [u8],
+    edits: &'a [u8],
     out: &mut [u8],
 ) -> Written
-    ensures { λ r. ⌜ ToBytes Bool.true (Limit.Given limit) packet (now (store .entry)) (now (out .entry)) r (now (out .exit)) ⌝ }
+    ensures { λ r. ⌜ ToBytes Bool.true (Limit.Given limit) packet (stores (now (datagram .entry)) (now (edits .entry))) (now (out .entry)) r (now (out .exit)) ⌝ }
 {
-    to_bytes_in(true, Limit::Given(limit), packet, store, out)
+    to_bytes_in(true, Limit::Given(limit), packet, datagram, edits, out)
 }
 
 // The same, without a limit.
-pub fn to_bytes_unlimited_strict(packet: Packet, store: &[u8], out: &mut [u8]) -> Written
-    ensures { λ r. ⌜ ToBytes Bool.true Limit.Unlimited packet (now (store .entry)) (now (out .entry)) r (now (out .exit)) ⌝ }
+pub fn to_bytes_unlimited_strict<'a>(
+    packet: Packet,
+    datagram: &'a [u8],
+    edits: &'a [u8],
+    out: &mut [u8],
+) -> Written
+    ensures { λ r. ⌜ ToBytes Bool.true Limit.Unlimited packet (stores (now (datagram .entry)) (now (edits .entry))) (now (out .entry)) r (now (out .exit)) ⌝ }
 {
-    to_bytes_in(true, Limit::Unlimited, packet, store, out)
+    to_bytes_in(true, Limit::Unlimited, packet, datagram, edits, out)
 }
 
 // All six: plain or strict, under a limit. All is measured before a byte is put, so that a refused packet changes nothing.
-pub fn to_bytes_in(
+pub fn to_bytes_in<'a>(
     strict: bool,
     limit: Limit,
     packet: Packet,
-    store: &[u8],
+    datagram: &'a [u8],
+    edits: &'a [u8],
     out: &mut [u8],
 ) -> Written
-    ensures { λ r. ⌜ ToBytes strict limit packet (now (store .entry)) (now (out .entry)) r (now (out .exit)) ⌝ }
+    ensures { λ r. ⌜ ToBytes strict limit packet (stores (now (datagram .entry)) (now (edits .entry))) (now (out .entry)) r (now (out .exit)) ⌝ }
 {
-    match measured(strict, limit, packet, store.len(), out.len()) {
+    let lengths = Lengths::of(datagram, edits);
+    match measured(strict, limit, packet, lengths, out.len()) {
         Written::Refused(e) => Written::Refused(e),
-        Written::Length(_) => Written::Length(put_message(out, strict, packet, store)),
+        Written::Length(_) => Written::Length(put_message(out, strict, packet, datagram, edits)),
     }
 }
 
 // Puts the message at the start of the output: header and token, options, payload. The options are taken out and walked in
 // this function: in one of their own they would be copied again.
-fn put_message(out: &mut [u8], strict: bool, packet: Packet, store: &[u8]) -> usize
-    requires { ⌜ (badPacket (length (now store)) packet ≡ false) × (length (bytesWritten strict (now store) packet) ≤ length (now out)) ⌝ }
-    ensures { λ r. ⌜ Put (now (out .entry)) 0 (bytesWritten strict (now (store .entry)) packet) r (now (out .exit)) ⌝ }
+fn put_message<'a>(
+    out: &mut [u8],
+    strict: bool,
+    packet: Packet,
+    datagram: &'a [u8],
+    edits: &'a [u8],
+) -> usize
+    requires { ⌜ (badPacket (lengthsOf (stores (now datagram) (now edits))) packet ≡ false) × (length (bytesWritten strict (stores (now datagram) (now edits)) packet) ≤ length (now out)) ⌝ }
+    ensures { λ r. ⌜ Put (now (out .entry)) 0 (bytesWritten strict (stores (now (datagram .entry)) (now (edits .entry))) packet) r (now (out .exit)) ⌝ }
 {
     let header = packet.header;
     let code = header.code;
@@ -92,18 +124,18 @@ fn put_message(out: &mut [u8], strict: bool, packet: Packet, store: &[u8]) -> us
     let payload = sent_payload(strict, code, packet.payload);
     let count = packet.count;
     let options = packet.options;
-    let token_bytes = token.part(store);
+    let token_bytes = token.part(datagram, edits);
     let mut next = taken(put_header(out, header, token_bytes));
     let mut before: u16 = 0;
     let mut i = 0;
     while i < count {
         let record = options[i];
-        let value = record.value(store);
+        let value = record.value(datagram, edits);
         next = next + taken(put_option(out, next, before, record.number, value));
         before = record.number;
         i = i + 1;
     }
-    let payload_bytes = payload.part(store);
+    let payload_bytes = payload.part(datagram, edits);
     next + taken(put_payload(out, next, payload_bytes))
 }
 

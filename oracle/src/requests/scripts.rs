@@ -30,7 +30,7 @@ impl Script {
         self.line.write_fmt(words).expect("a string takes all");
     }
 
-    /// Whether so many bytes more fit into the store, which they then take.
+    /// Whether so many bytes more fit into the edit store, which they then take.
     fn fits(&mut self, bytes: usize) -> bool {
         let fits = self.used + bytes <= STORE;
         self.used += if fits { bytes } else { 0 };
@@ -128,7 +128,7 @@ impl Varied {
         for (number, _) in &parts.options {
             *counts.entry(*number).or_default() += 1;
         }
-        Script { line: format!("edit {}", hex(&datagram)), counts, used: datagram.len() }
+        Script { line: format!("edit {}", hex(&datagram)), counts, used: 0 }
     }
 
     /// The numbers that a script is about.

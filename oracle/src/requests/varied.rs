@@ -60,14 +60,18 @@ impl Varied {
         if self.made % LONG == 1 && self.made / LONG < LONG_MOST {
             return self.long_strict();
         }
-        match self.random.below(27) {
-            0..=4 => format!("register {}", self.registered().asked()),
+        match self.random.below(34) {
+            0..=4 => {
+                let parts = self.registered();
+                format!("register {}", self.homed(&parts))
+            }
             5..=8 => self.write_strict(),
             9 => self.full_read(),
             10 | 11 => self.last_number_read(),
             12 | 13 => self.to_uint(),
             14..=17 => self.plan(),
             18..=22 => self.frame(),
+            23..=29 => self.ranged(),
             _ => self.block_strict(),
         }
     }
@@ -318,11 +322,11 @@ impl Varied {
         for _ in 0..self.random.below(3) {
             self.spoil(&mut parts);
         }
-        format!("write {bounds} {}", parts.asked())
+        format!("write {bounds} {}", self.homed(&parts))
     }
 
     /// A limit and a room, some of them beside what a packet takes.
-    fn bounds(&mut self, parts: &Parts) -> String {
+    pub fn bounds(&mut self, parts: &Parts) -> String {
         let limit = match self.random.below(8) {
             0..=2 => "default".into(),
             3 | 4 => "none".into(),
@@ -554,7 +558,10 @@ impl Varied {
             let missing = aim.saturating_sub(parts.store());
             parts.payload.extend(self.random.bytes(missing));
         }
-        format!("{} {}", self.random.of(&["register", "write none 71000"]), parts.asked())
+        if self.random.one_in(2) {
+            return format!("{} {}", self.random.of(&["register", "write none 71000"]), parts.asked());
+        }
+        format!("{} {}", self.random.of(&["register", "write none 71000"]), self.homed(&parts))
     }
 }
 

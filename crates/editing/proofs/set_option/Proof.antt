@@ -5,11 +5,11 @@ use denote.Ref.{now}
 use Rattle.refusal.specs.Answer.{beside}
 use Rattle.packet.specs.Packet.{recordsOf}
 use Rattle.packet.specs.declared.OptionRecord.{OptionRecord}
-use Rattle.splicing.specs.Splice.{roomy, recordOf, rangesIn}
+use Rattle.splicing.specs.Splice.{roomy, recordOf, rangesIn, homed}
 use Rattle.editing.specs.Edit.{replaced, optionSet}
 use Rattle.judging.proofs.Places.{from-misordered, from-between}
 use Rattle.editing.proofs.Splice.{set-spliced}
-use Rattle.editing.proofs.Taken.{taken, not-taken}
+use Rattle.editing.proofs.Taken.{homed-taken, homed-not-taken}
 use borrow.Author.Needs.{needs}
 use Rattle.editing.proofs.set_option.Statement.{statement}
 use Rattle.editing.proofs.set_option.Tie as tie
@@ -33,7 +33,7 @@ returns : tie.Need-returns
 unfolding optionSet
 returns c =
     let a = c .before .before .before .before .before .args in
-    c .refused .ensures ∙ not-taken _ _ (from-misordered (a .packet) (a .number) (sym (c .before .enum-told .given .1) ∙ c .before .before .before .span-of .ensures))
+    c .refused .ensures ∙ homed-not-taken _ (now (a .ranges)) (λ ranges. roomy (a .packet) (replaced (a .number) ranges (recordsOf (a .packet)))) (from-misordered (a .packet) (a .number) (sym (c .before .enum-told .given .1) ∙ c .before .before .before .span-of .ensures))
 
 returns-2 : tie.Need-returns-2
 unfolding optionSet
@@ -41,11 +41,11 @@ returns-2 c =
     let k = c .before .before in
     let a = k .before .before .before .before .args in
     let p = a .packet in
-    let ranges = rangesIn (now (a .ranges)) in
+    let l = now (a .ranges) in
     let s = from-between p (a .number) _ _ (sym (k .low .given .1) ∙ k .before .before .span-of .ensures) in
     c .spliced .ensures
-    ∙ (ap (λ (l : List OptionRecord). beside p (roomy p l)) (sym (set-spliced p (a .number) _ _ s (map (recordOf (a .number)) ranges)))
-    ∙ taken p (roomy p (replaced (a .number) ranges (recordsOf p))) (s .sound))
+    ∙ (ap (λ (rs : List OptionRecord). beside p (homed l (λ _. roomy p rs))) (sym (set-spliced p (a .number) _ _ s (map (recordOf (a .number)) (rangesIn l))))
+    ∙ homed-taken p l (λ ranges. roomy p (replaced (a .number) ranges (recordsOf p))) (s .sound))
 
 pub set-option-spec : {M : Type 1} → statement M
 set-option-spec =

@@ -1,5 +1,7 @@
 -- `rickwinter_copy`: what was read, written again.
 use mathlib.Core.Path.{_∙_}
+use mathlib.Core.List.{[]}
+use Rattle.packet.specs.Packet.{stores}
 use Rattle.reading.specs.Reading.{reading}
 use Rattle.ffi.proofs.Answered.{copied}
 use borrow.Author.Needs.{needs}
@@ -22,7 +24,7 @@ returns : tie.Need-returns
 returns c =
     let t = c .before .before .before in
     let a = t .before .before .before .before .before .args in
-    let h = copied (reading (a .strict) (a .datagram .now)) _ (t .before .before .from-bytes-in .ensures) (a .out .now) _ _ (a .strict) (a .datagram .now) (t .copy-over .ensures) in
+    let h = copied (reading (a .strict) (a .datagram .now)) _ (t .before .before .from-bytes-in .ensures) (a .out .now) _ _ (a .strict) (stores (a .datagram .now) []) (t .copy-over .ensures) in
     (c .length-or-refusal .ensures ∙ h .0, h .1)
 
 pub rickwinter-copy-spec : {M : Type 1} → statement M

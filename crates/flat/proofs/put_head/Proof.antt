@@ -1,4 +1,4 @@
--- `put_head`: nine numbers, each at its place.
+-- `put_head`: eleven numbers, each at its place.
 use native.Mathlib.Omega.{arith}
 use lib.ListN.{length-set}
 use borrow.Author.Needs.{needs}
@@ -35,6 +35,9 @@ cast-out-4 c = search needs
 slice-write-out-4 : tie.Need-slice-write-out-4
 slice-write-out-4 c = simp length-set (omega arith)
 
+number-of-home-requires : tie.Need-number-of-home-requires
+number-of-home-requires c κs = search needs
+
 slice-write-out-5 : tie.Need-slice-write-out-5
 slice-write-out-5 c = simp length-set (omega arith)
 
@@ -44,20 +47,32 @@ slice-write-out-6 c = simp length-set (omega arith)
 slice-write-out-7 : tie.Need-slice-write-out-7
 slice-write-out-7 c = simp length-set (omega arith)
 
+number-of-home-requires-2 : tie.Need-number-of-home-requires-2
+number-of-home-requires-2 c κs = search needs
+
 slice-write-out-8 : tie.Need-slice-write-out-8
 slice-write-out-8 c = simp length-set (omega arith)
+
+slice-write-out-9 : tie.Need-slice-write-out-9
+slice-write-out-9 c = simp length-set (omega arith)
+
+slice-write-out-10 : tie.Need-slice-write-out-10
+slice-write-out-10 c = simp length-set (omega arith)
 
 cast-out-5 : tie.Need-cast-out-5
 cast-out-5 c = search needs
 
-slice-write-out-9 : tie.Need-slice-write-out-9
-slice-write-out-9 c = simp length-set (omega arith)
+slice-write-out-11 : tie.Need-slice-write-out-11
+slice-write-out-11 c = simp length-set (omega arith)
 
 same-length : tie.Need-same-length
 same-length c = simp length-set
 
 returns : tie.Need-returns
-returns c = rw (c .before .to-byte .ensures, c .before .before .to-number .ensures)
+returns c =
+    let first = c .before in
+    let byte = first .before .before in
+    rw (c .number-of-home2 .ensures, first .number-of-home .ensures, byte .to-byte .ensures, byte .before .to-number .ensures)
 
 pub put-head-spec : {M : Type 1} → statement M
 put-head-spec =
@@ -73,11 +88,15 @@ put-head-spec =
     slice-write-out-3
     cast-out-4
     slice-write-out-4
+    number-of-home-requires
     slice-write-out-5
     slice-write-out-6
     slice-write-out-7
+    number-of-home-requires-2
     slice-write-out-8
-    cast-out-5
     slice-write-out-9
+    slice-write-out-10
+    cast-out-5
+    slice-write-out-11
     same-length
     returns)

@@ -8,10 +8,10 @@ use Rattle.getter_words.proofs.put_asked.Statement.{statement}
 use Rattle.getter_words.proofs.put_asked.Tie as tie
 
 abbrev Inv-loop : tie.InvT-loop
-Inv-loop out₀ place line at packet store place₀ next₀ i₀ out place' next i = length out ≡ length out₀
+Inv-loop out₀ place line at packet datagram edits place₀ next₀ i₀ out place' next i = length out ≡ length out₀
 
 abbrev μ-loop : tie.MeasureT-loop
-μ-loop out₀ place line at packet store place₀ next₀ i₀ out place' next i = length line - i
+μ-loop out₀ place line at packet datagram edits place₀ next₀ i₀ out place' next i = length line - i
 
 put-byte-requires : tie.Need-put-byte-requires Inv-loop μ-loop
 put-byte-requires c κs = tt

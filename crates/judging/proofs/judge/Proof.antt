@@ -17,10 +17,10 @@ use Rattle.judging.proofs.judge.Statement.{statement}
 use Rattle.judging.proofs.judge.Tie as tie
 
 abbrev Inv-loop : tie.InvT-loop
-Inv-loop store-len count options before₀ size₀ i₀ before size i = (length options ≡ maxOptions) × Judging store-len (take count options) before size i
+Inv-loop lengths count options before₀ size₀ i₀ before size i = (length options ≡ maxOptions) × Judging lengths (take count options) before size i
 
 abbrev μ-loop : tie.MeasureT-loop
-μ-loop store-len count options before₀ size₀ i₀ before size i = count - i
+μ-loop lengths count options before₀ size₀ i₀ before size i = count - i
 
 -- As many records are in use as the packet counts.
 used : (c : tie.Else2 Inv-loop μ-loop) → length (recordsOf (c .before .before .before .before .args .packet)) ≡ c .before .before .before .before .args .packet .count
@@ -35,10 +35,10 @@ here c =
     left (p .options) (p .count) (c .before .loop .i) (omega (arith, used (c .before .before .before .before)))
 
 -- A record that is not bad follows, and the walk goes on after it.
-fits : (c : tie.Else4 Inv-loop μ-loop) → Follows (c .before .before .before .before .before .before .before .before .before .before .before .args .«store-len») (c .before .before .before .before .loop .before) (getD (c .before .before .before .before .before .before .before .before .before .before .before .args .packet .options) (c .before .before .before .before .loop .i) none)
+fits : (c : tie.Else4 Inv-loop μ-loop) → Follows (c .before .before .before .before .before .before .before .before .before .before .before .args .lengths) (c .before .before .before .before .loop .before) (getD (c .before .before .before .before .before .before .before .before .before .before .before .args .packet .options) (c .before .before .before .before .loop .i) none)
 fits c = follows _ _ _ (sym (c .before .bad-record .ensures) ∙ c .if4 .left)
 
-again : (c : tie.After-size-after Inv-loop μ-loop) → Judging (c .before .before .before .before .before .before .before .before .before .before .before .before .args .«store-len») (recordsOf (c .before .before .before .before .before .before .before .before .before .before .before .before .args .packet)) (getD (c .before .before .before .before .before .before .before .before .before .before .before .before .args .packet .options) (c .before .before .before .before .before .loop .i) none .number) (c .before .before .before .before .before .loop .size + c .size-after .result) (c .before .before .before .before .before .loop .i + 1)
+again : (c : tie.After-size-after Inv-loop μ-loop) → Judging (c .before .before .before .before .before .before .before .before .before .before .before .before .args .lengths) (recordsOf (c .before .before .before .before .before .before .before .before .before .before .before .before .args .packet)) (getD (c .before .before .before .before .before .before .before .before .before .before .before .before .args .packet .options) (c .before .before .before .before .before .loop .i) none .number) (c .before .before .before .before .before .loop .size + c .size-after .result) (c .before .before .before .before .before .loop .i + 1)
 again c =
     let l = c .before .before .before .before in
     rw (c .size-after .ensures)

@@ -12,6 +12,9 @@ put-refusal-requires c κs = search needs
 enum-told : tie.Need-enum-told
 enum-told c = search needs
 
+slice-aggregate-put-message : tie.Need-slice-aggregate-put-message
+slice-aggregate-put-message c = search needs
+
 put-message-requires : tie.Need-put-message-requires
 put-message-requires c κs = search needs
 
@@ -25,7 +28,7 @@ same-length-2 : tie.Need-same-length-2
 same-length-2 c = search needs
 
 returns-2 : tie.Need-returns-2
-returns-2 c = rw (c .before .before .before .before .before .enum-told .given .1) (c .before .before .put-message .ensures)
+returns-2 c = rw (c .before .before .before .before .before .before .enum-told .given .1) (c .before .before .put-message .ensures)
 
 pub put-decoded-spec : {M : Type 1} → statement M
 put-decoded-spec =
@@ -34,6 +37,7 @@ put-decoded-spec =
     enum-known-outcome
     put-refusal-requires
     enum-told
+    slice-aggregate-put-message
     put-message-requires
     same-length
     returns

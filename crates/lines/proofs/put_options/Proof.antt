@@ -4,7 +4,7 @@ use mathlib.Core.Path.{_≡_, ap}
 use mathlib.Core.List.{List, map}
 use native.Mathlib.Omega.{arith}
 use lib.ListN.{length, drop, length-take}
-use Rattle.packet.specs.Packet.{recordsOf}
+use Rattle.packet.specs.Packet.{stores, recordsOf}
 use Rattle.packet.specs.Meaning.{optionOf}
 use Rattle.packet.specs.declared.OptionRecord.{OptionRecord}
 use Rattle.packet.proofs.Records.{left, none-left}
@@ -14,24 +14,24 @@ use Rattle.lines.proofs.put_options.Statement.{statement}
 use Rattle.lines.proofs.put_options.Tie as tie
 use Rattle.packet.proofs.Held.{full}
 
--- The lines of records over a store.
-abbrev lines : ℕ → List ℕ → List OptionRecord → List ℕ
-lines end store rs = optionLines end (map (optionOf store) rs)
+-- The lines of records over two stores.
+abbrev lines : ℕ → List ℕ → List ℕ → List OptionRecord → List ℕ
+lines end datagram edits rs = optionLines end (map (optionOf (stores datagram edits)) rs)
 
 abbrev Inv-loop : tie.InvT-loop
-Inv-loop out₀ at store end packet count next₀ i₀ out next i =
-    ((i ≤ count) × (count ≤ 128)) × ((count ≡ length (recordsOf packet)) × Putting out₀ at (lines end store (recordsOf packet)) out next (lines end store (drop i (recordsOf packet))))
+Inv-loop out₀ at datagram edits end packet count next₀ i₀ out next i =
+    ((i ≤ count) × (count ≤ 128)) × ((count ≡ length (recordsOf packet)) × Putting out₀ at (lines end datagram edits (recordsOf packet)) out next (lines end datagram edits (drop i (recordsOf packet))))
 
 abbrev μ-loop : tie.MeasureT-loop
-μ-loop out₀ at store end packet count next₀ i₀ out next i = count - i
+μ-loop out₀ at datagram edits end packet count next₀ i₀ out next i = count - i
 
 option-count-requires : tie.Need-option-count-requires Inv-loop μ-loop
 option-count-requires c κs = tt
 
 loop-holds : tie.Need-loop-holds Inv-loop μ-loop
 loop-holds c =
-    let p = c .before .before .before .args .t3 in
-    let n : length (p .options) ≡ 128 = full p (c .before .before .before .good .1 .1 .0) in
+    let p = c .before .before .before .before .args .t3 in
+    let n : length (p .options) ≡ 128 = full p (c .before .before .before .before .good .1 .1 .0) in
     (omega (arith, c .option-count .ensures, length-take (p .count) (p .options)), (c .option-count .ensures, putting-start _ _ _))
 
 mul-record : tie.Need-mul-record Inv-loop μ-loop
@@ -55,12 +55,12 @@ loop-less c = omega arith
 loop-again : tie.Need-loop-again Inv-loop μ-loop
 loop-again c =
     let s = c .before .before .before .before .before .before .before in
-    let a = s .before .before .before .before .args in
+    let a = s .before .before .before .before .before .args in
     let rest = left (a .t3 .options) (a .t3 .count) (s .loop .i) (omega arith) in (
       omega arith,
       (
         s .loop .inv .1 .0,
-        putting-turn (s .loop .inv .1 .1) (ap (lines (a .end) (a .store .now)) rest)
+        putting-turn (s .loop .inv .1 .1) (ap (lines (a .end) (a .datagram .now) (a .edits .now)) rest)
             (rw (c .before .before .before .value .ensures .0) at (c .before .before .put-option .ensures)),
       ),
     )
@@ -69,7 +69,7 @@ same-length : tie.Need-same-length Inv-loop μ-loop
 same-length c = c .before .loop .inv .1 .1 .kept
 
 returns : tie.Need-returns Inv-loop μ-loop
-returns c = putting-end (c .before .loop .inv .1 .1) (ap (lines _ _) (none-left _ (c .before .loop .i) (omega arith)))
+returns c = putting-end (c .before .loop .inv .1 .1) (ap (lines _ _ _) (none-left _ (c .before .loop .i) (omega arith)))
 
 pub put-options-spec : {M : Type 1} → statement M
 put-options-spec =

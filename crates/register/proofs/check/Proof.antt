@@ -1,25 +1,33 @@
 -- `check`: each return by the tests on its way; a good packet has at most 128 records, whose numbers never fall.
-use mathlib.Core.Path.{_≡_}
+use mathlib.Core.Path.{_≡_, sym, subst, _∙_}
 use mathlib.Core.Bool.{false}
-use lib.ListN.{length}
 use borrow.Author.Needs.{needs}
-use borrow.Author.Tests.{lt-ltb, le-ltb}
 use Rattle.judging.specs.Judge.{badPacket}
+use Rattle.judging.specs.declared.Lengths.{Lengths}
 use Rattle.judging.proofs.Good.{good, is-bad, is-good}
-use Rattle.register.specs.Check.{inOrder}
+use Rattle.register.specs.Check.{inOrder, Checks}
 use Rattle.register.proofs.check.Statement.{statement}
 use Rattle.register.proofs.check.Tie as tie
 
 -- The packet that is walked over has no bad record.
-no-bad : (c : tie.After-enum-told2) → badPacket (length (c .before .before .before .before .before .args .store .now)) (c .before .before .before .before .before .args .packet) ≡ false
+no-bad : (c : tie.After-enum-told2) → badPacket (c .before .before .before .before .before .of .result) (c .before .before .before .before .before .before .before .before .args .packet) ≡ false
 no-bad c = is-good _ _ _ (c .before .before .judge .ensures) _ (c .enum-told2 .given .1) .0
+
+of-requires : tie.Need-of-requires
+of-requires c κs = search needs
+
+too-long-requires : tie.Need-too-long-requires
+too-long-requires c κs = search needs
 
 refused-requires : tie.Need-refused-requires
 refused-requires c κs = search needs
 
 returns : tie.Need-returns
 unfolding inOrder
-returns c = rw (lt-ltb _ _ (c .before .if1 .taken)) (c .refused .ensures)
+returns c =
+    let b = c .before .before in
+    subst (λ (n : Lengths). Checks n (b .before .before .before .before .args .packet) (c .refused .result)) (b .before .of .ensures)
+    (rw (sym (b .too-long .ensures) ∙ c .before .if1 .taken) (c .refused .ensures))
 
 judge-requires : tie.Need-judge-requires
 judge-requires c κs = search needs
@@ -39,17 +47,24 @@ sort-requires c κs = let g = good _ _ (no-bad c) in (g .count, g .ordered)
 returns-2 : tie.Need-returns-2
 unfolding inOrder
 returns-2 c =
-    rw (le-ltb _ _ (c .before .before .before .before .if1 .left), is-bad _ _ _ (c .before .before .before .judge .ensures) (c .before .enum-told .given .1))
-    (c .refused2 .ensures)
+    let b = c .before .before .before .before in
+    subst (λ (n : Lengths). Checks n (b .before .before .before .before .before .args .packet) (c .refused2 .result)) (b .before .before .of .ensures)
+    (rw (sym (b .before .too-long .ensures) ∙ b .if1 .left, is-bad _ _ _ (c .before .before .before .judge .ensures) (c .before .enum-told .given .1))
+    (c .refused2 .ensures))
 
 returns-3 : tie.Need-returns-3
 unfolding inOrder
-returns-3 c = rw (le-ltb _ _ (c .before .before .before .before .if1 .left), no-bad (c .before)) (c .sort .ensures)
+returns-3 c =
+    let b = c .before .before .before .before in
+    subst (λ (n : Lengths). Checks n (b .before .before .before .before .before .args .packet) (c .sort .result)) (b .before .before .of .ensures)
+    (rw (sym (b .before .too-long .ensures) ∙ b .if1 .left, no-bad (c .before)) (c .sort .ensures))
 
 pub check-spec : {M : Type 1} → statement M
 check-spec =
     tie.close
     (tie.spec
+    of-requires
+    too-long-requires
     refused-requires
     returns
     judge-requires

@@ -2,7 +2,7 @@
 use mathlib.Core.Path.{_≡_, refl, sym, ap, _∙_}
 use denote.Ref.{now}
 use Rattle.option_value.specs.Uint.{readUint, readU16}
-use Rattle.packet.specs.Packet.{recordsOf, ofNumber, valueOf}
+use Rattle.packet.specs.Packet.{stores, recordsOf, ofNumber, valueOf}
 use Rattle.typed_options.specs.Getters.{formatOf, formatIn}
 use Rattle.typed_options.specs.declared.ContentFormat.the-variants.{None}
 use Rattle.typed_options.proofs.Getters.{on-absent, on-present}
@@ -11,12 +11,12 @@ use Rattle.typed_options.proofs.get_content_format.Statement.{statement
 use Rattle.typed_options.proofs.get_content_format.Tie as tie
 
 -- The answer is what the value of the first record reads as.
-answer : (c : tie.After-try-from) → formatOf (readU16 (c .try-from .result)) ≡ formatIn (now (c .before .before .before .before .before .args .store)) (c .before .before .before .before .before .args .packet)
+answer : (c : tie.After-try-from) → formatOf (readU16 (c .try-from .result)) ≡ formatIn (stores (now (c .before .before .before .before .before .before .args .datagram)) (now (c .before .before .before .before .before .before .args .edits))) (c .before .before .before .before .before .before .args .packet)
 unfolding formatIn
 answer c =
-    let a = c .before .before .before .before .before .args in
+    let a = c .before .before .before .before .before .before .args in
     ap formatOf (c .try-from .ensures ∙ ap (readUint 2) (c .before .get-first-option .ensures .0))
-    ∙ on-present (None 0) (λ r. formatOf (readUint 2 (valueOf (now (a .store)) r))) _ (ofNumber 12 (recordsOf (a .packet)))
+    ∙ on-present (None 0) (λ r. formatOf (readUint 2 (valueOf (stores (now (a .datagram)) (now (a .edits))) r))) _ (ofNumber 12 (recordsOf (a .packet)))
     (c .before .before .before .has-option .ensures) (c .before .before .if1 .left)
 
 has-option-requires : tie.Need-has-option-requires
@@ -25,8 +25,8 @@ has-option-requires c κs = search needs
 returns : tie.Need-returns
 unfolding formatIn
 returns c =
-    let a = c .before .before .before .args in
-    on-absent (None 0) (λ r. formatOf (readUint 2 (valueOf (now (a .store)) r))) _ (ofNumber 12 (recordsOf (a .packet))) (c .before .has-option .ensures) (c .if1 .taken)
+    let a = c .before .before .before .before .args in
+    on-absent (None 0) (λ r. formatOf (readUint 2 (valueOf (stores (now (a .datagram)) (now (a .edits))) r))) _ (ofNumber 12 (recordsOf (a .packet))) (c .before .has-option .ensures) (c .if1 .taken)
 
 get-first-option-requires : tie.Need-get-first-option-requires
 get-first-option-requires c κs = search needs

@@ -4,7 +4,7 @@ use denote.Ref.{now}
 use Prim.Native.Nat.{ℕ}
 use Rattle.refusal.specs.Answer.{Answer, given, onward}
 use Rattle.option_value.specs.Uint.{Padded, readUint, readU32}
-use Rattle.packet.specs.Packet.{recordsOf, ofNumber, valueOf}
+use Rattle.packet.specs.Packet.{stores, recordsOf, ofNumber, valueOf}
 use Rattle.typed_options.specs.Getters.{Found, number, absent, observeIn}
 use Rattle.typed_options.proofs.Getters.{on-absent, on-present}
 use borrow.Author.Needs.{needs}
@@ -16,12 +16,12 @@ abbrev found : Answer (Padded ℕ) → Answer Found
 found a = onward a (λ n. given (number n))
 
 -- The answer is what the value of the first record reads as.
-answer : (c : tie.After-try-from) → found (readU32 (c .try-from .result)) ≡ observeIn (now (c .before .before .before .before .before .args .store)) (c .before .before .before .before .before .args .packet)
+answer : (c : tie.After-try-from) → found (readU32 (c .try-from .result)) ≡ observeIn (stores (now (c .before .before .before .before .before .before .args .datagram)) (now (c .before .before .before .before .before .before .args .edits))) (c .before .before .before .before .before .before .args .packet)
 unfolding observeIn
 answer c =
-    let a = c .before .before .before .before .before .args in
+    let a = c .before .before .before .before .before .before .args in
     ap found (c .try-from .ensures ∙ ap (readUint 4) (c .before .get-first-option .ensures .0))
-    ∙ on-present (given absent) (λ r. found (readUint 4 (valueOf (now (a .store)) r))) _ (ofNumber 6 (recordsOf (a .packet)))
+    ∙ on-present (given absent) (λ r. found (readUint 4 (valueOf (stores (now (a .datagram)) (now (a .edits))) r))) _ (ofNumber 6 (recordsOf (a .packet)))
     (c .before .before .before .has-option .ensures) (c .before .before .if1 .left)
 
 has-option-requires : tie.Need-has-option-requires
@@ -30,8 +30,8 @@ has-option-requires c κs = search needs
 returns : tie.Need-returns
 unfolding observeIn
 returns c =
-    let a = c .before .before .before .args in
-    on-absent (given absent) (λ r. found (readUint 4 (valueOf (now (a .store)) r))) _ (ofNumber 6 (recordsOf (a .packet))) (c .before .has-option .ensures) (c .if1 .taken)
+    let a = c .before .before .before .before .args in
+    on-absent (given absent) (λ r. found (readUint 4 (valueOf (stores (now (a .datagram)) (now (a .edits))) r))) _ (ofNumber 6 (recordsOf (a .packet))) (c .before .has-option .ensures) (c .if1 .taken)
 
 get-first-option-requires : tie.Need-get-first-option-requires
 get-first-option-requires c κs = search needs

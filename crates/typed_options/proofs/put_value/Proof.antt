@@ -30,7 +30,7 @@ refused-requires c κs = search needs
 returns : tie.Need-returns
 returns c =
     let a = c .before .before .before .args in
-    let old = now (a .store) in
+    let old = now (a .edits) in
     sets-known (a .packet) _ (refused 10) (a .start) (uint 8 (a .value)) old _ old (too-long old (a .start) (uint 8 (a .value)) (answered (edited (a .edit))) (c .before .if1 .taken)) (c .refused .ensures) refl
 
 enum-told : tie.Need-enum-told
@@ -42,7 +42,7 @@ enum-told-2 c = search needs
 returns-2 : tie.Need-returns-2
 returns-2 c =
     let a = c .before .before .before .before .args in
-    let old = now (a .store) in
+    let old = now (a .edits) in
     let h = c .enum-told2 .given .1 in
     sets-known (a .packet) _ _ (a .start) (uint 8 (a .value)) old _ old
     (edit-refused old (a .start) (uint 8 (a .value)) (c .before .before .if1 .left) _ (answered (edited (a .edit))) (ended (a .edit) _ h)) (told (a .edit .outcome) _ (a .packet) h) refl
@@ -61,7 +61,7 @@ returns-3 : tie.Need-returns-3
 returns-3 c =
     let k = c .before .before in
     let a = k .before .before .before .before .before .args in
-    let old = now (a .store) in
+    let old = now (a .edits) in
     sets-known (a .packet) _ (refused 12) (a .start) (uint 8 (a .value)) old _ old
     (no-room old (a .start) (uint 8 (a .value)) (k .before .before .before .if1 .left) (a .edit .packet) (answered (edited (a .edit))) (ended (a .edit) _ (k .before .enum-told .given .1)) (omega (arith, k .uint-length .ensures, c .before .if2 .taken)))
     (c .refused2 .ensures) refl
@@ -77,7 +77,7 @@ returns-4 c =
     let u = c .before .before in
     let k = u .before .before .before in
     let a = k .before .before .before .before .before .args in
-    let old = now (a .store) in
+    let old = now (a .edits) in
     let h = k .before .enum-told .given .1 in
     let fits : a .start + length (uint 8 (a .value)) ≤ length old = omega (arith, k .uint-length .ensures, u .before .before .if2 .left) in
     sets-known (a .packet) _ (given (a .edit .packet)) (a .start) (uint 8 (a .value)) old _ _

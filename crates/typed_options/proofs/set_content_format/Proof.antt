@@ -7,6 +7,7 @@ use lib.ListN.{length}
 use Rattle.rfc.specs.Uint.{uint}
 use Rattle.rfc.proofs.Uint.{uint-enough, length-uint}
 use Rattle.refusal.specs.Answer.{beside}
+use Rattle.packet.specs.declared.Home.the-variants.{Edits}
 use Rattle.editing.specs.Edit.{added}
 use Rattle.typed_options.specs.Setters.{rangeAt, formatSet}
 use Rattle.typed_options.proofs.Setters.{sets-edit}
@@ -37,8 +38,8 @@ returns c =
     let s = e .before .before .before in
     let a = s .args in
     let bytes : uint 8 (a .format) ≡ uint 2 (a .format) = uint-enough 2 6 (a .format) (omega (arith, s .fits .format)) in
-    sets-edit (a .packet) (added (a .packet) 12 (rangeAt (a .start) (uint 2 (a .format)))) (a .start) (uint 2 (a .format)) (uint 8 (a .format)) (now (a .store)) (e .add-option .result) _ _
-    (e .add-option .ensures ∙ ap (λ (n : ℕ). beside (a .packet) (added (a .packet) 12 (record { start = a .start; len = n }))) (e .before .uint-length .ensures ∙ ap length bytes)) bytes (c .before .before .put-value .ensures)
+    sets-edit (a .packet) (added (a .packet) 12 (rangeAt (a .start) (uint 2 (a .format)))) (a .start) (uint 2 (a .format)) (uint 8 (a .format)) (now (a .edits)) (e .add-option .result) _ _
+    (e .add-option .ensures ∙ ap (λ (n : ℕ). beside (a .packet) (added (a .packet) 12 (record { home = Edits; start = a .start; len = n }))) (e .before .uint-length .ensures ∙ ap length bytes)) bytes (c .before .before .put-value .ensures)
 
 pub set-content-format-spec : {M : Type 1} → statement M
 set-content-format-spec =

@@ -8,6 +8,7 @@ use lib.ListN.{length}
 use Rattle.rfc.specs.Uint.{uint}
 use Rattle.rfc.proofs.Uint.{uint-enough, length-uint}
 use Rattle.refusal.specs.Answer.{beside}
+use Rattle.packet.specs.declared.Home.the-variants.{Edits}
 use Rattle.editing.specs.Edit.{optionSet}
 use Rattle.typed_options.specs.Setters.{rangeAt, observeSet}
 use Rattle.typed_options.proofs.Setters.{sets-edit}
@@ -41,8 +42,8 @@ returns c =
     let s = e .before .before .before .before in
     let a = s .args in
     let bytes : uint 8 (a .value) ≡ uint 4 (a .value) = uint-enough 4 4 (a .value) (omega (arith, s .fits .value)) in
-    sets-edit (a .packet) (optionSet (a .packet) 6 (rangeAt (a .start) (uint 4 (a .value)) ∷ [])) (a .start) (uint 4 (a .value)) (uint 8 (a .value)) (now (a .store)) (e .set-option .result) _ _
-    (e .set-option .ensures ∙ ap (λ (n : ℕ). beside (a .packet) (optionSet (a .packet) 6 (record { start = a .start; len = n } ∷ []))) (e .before .before .uint-length .ensures ∙ ap length bytes)) bytes (c .before .before .put-value .ensures)
+    sets-edit (a .packet) (optionSet (a .packet) 6 (rangeAt (a .start) (uint 4 (a .value)) ∷ [])) (a .start) (uint 4 (a .value)) (uint 8 (a .value)) (now (a .edits)) (e .set-option .result) _ _
+    (e .set-option .ensures ∙ ap (λ (n : ℕ). beside (a .packet) (optionSet (a .packet) 6 (record { home = Edits; start = a .start; len = n } ∷ []))) (e .before .before .uint-length .ensures ∙ ap length bytes)) bytes (c .before .before .put-value .ensures)
 
 pub set-observe-value-spec : {M : Type 1} → statement M
 set-observe-value-spec =

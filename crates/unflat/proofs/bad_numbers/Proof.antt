@@ -1,4 +1,4 @@
--- `bad_numbers`: the records passed have small numbers.
+-- `bad_numbers`: the records passed are good.
 use Prim.Native.Nat.{_-_, _≤_}
 use mathlib.Core.Path.{_≡_, refl, sym, ap, _∙_}
 use mathlib.Core.Bool.{false}
@@ -17,20 +17,20 @@ abbrev μ-loop : tie.MeasureT-loop
 loop-holds : tie.Need-loop-holds Inv-loop μ-loop
 loop-holds c = (omega arith, refl)
 
-mul-if1 : tie.Need-mul-if1 Inv-loop μ-loop
-mul-if1 c = omega arith
+mul-bad-record : tie.Need-mul-bad-record Inv-loop μ-loop
+mul-bad-record c = omega arith
 
-add-if1 : tie.Need-add-if1 Inv-loop μ-loop
-add-if1 c = omega arith
+add-bad-record : tie.Need-add-bad-record Inv-loop μ-loop
+add-bad-record c = omega arith
 
-mul-if1-2 : tie.Need-mul-if1-2 Inv-loop μ-loop
-mul-if1-2 c = omega arith
-
-shared-slice-read-if1 : tie.Need-shared-slice-read-if1 Inv-loop μ-loop
-shared-slice-read-if1 c = omega arith
+bad-record-requires : tie.Need-bad-record-requires Inv-loop μ-loop
+bad-record-requires c κs = omega arith
 
 returns : tie.Need-returns Inv-loop μ-loop
-returns c = sym (bad-by (c .before .before .before .before .args .numbers .now) (c .before .before .before .before .args .count) (c .before .before .before .loop .i) (c .before .before .loop-test .taken) (c .if1 .taken))
+returns c =
+    let turn = c .before .before in
+    let a = turn .before .before .before .args in
+    sym (bad-by (a .numbers .now) (a .count) (turn .before .loop .i) (turn .loop-test .taken) (sym (c .before .bad-record .ensures) ∙ c .if1 .taken))
 
 add-i : tie.Need-add-i Inv-loop μ-loop
 add-i c = omega arith
@@ -39,12 +39,15 @@ loop-less : tie.Need-loop-less Inv-loop μ-loop
 loop-less c = omega arith
 
 loop-again : tie.Need-loop-again Inv-loop μ-loop
-loop-again c = (omega arith, good-more (c .before .before .before .before .args .numbers .now) (c .before .before .before .loop .i) (c .before .before .before .loop .inv .1) (c .if1 .left))
+loop-again c =
+    let s = c .before .before .before in
+    (omega arith, good-more (s .before .before .args .numbers .now) (s .loop .i) (s .loop .inv .1) (sym (c .before .bad-record .ensures) ∙ c .if1 .left))
 
 returns-2 : tie.Need-returns-2 Inv-loop μ-loop
 returns-2 c =
-    let all : c .before .loop .i ≡ c .before .before .args .count = omega arith in
-    sym (ap (badNumbers (c .before .before .args .numbers .now)) (sym all) ∙ c .before .loop .inv .1)
+    let a = c .before .before .before .args in
+    let all : c .before .loop .i ≡ a .count = omega arith in
+    sym (ap (badNumbers (a .numbers .now)) (sym all) ∙ c .before .loop .inv .1)
 
 pub bad-numbers-spec : {M : Type 1} → statement M
 bad-numbers-spec =
@@ -53,10 +56,9 @@ bad-numbers-spec =
     Inv-loop
     μ-loop
     loop-holds
-    mul-if1
-    add-if1
-    mul-if1-2
-    shared-slice-read-if1
+    mul-bad-record
+    add-bad-record
+    bad-record-requires
     returns
     add-i
     loop-less

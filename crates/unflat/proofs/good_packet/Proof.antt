@@ -2,12 +2,11 @@
 use Prim.Native.Nat.{_-_, _≤_}
 use mathlib.Core.Path.{_≡_, ap, _∙_}
 use native.Mathlib.Omega.{arith}
-use lib.ListN.{getD}
-use borrow.Author.Needs.{needs}
-use Rattle.packet.specs.Packet.{newPacket}
-use Rattle.packet.specs.declared.Packet.{Packet}
+use lib.ListN.{getD, replicate}
+use Rattle.packet.specs.Limits.{maxOptions}
+use Rattle.packet.specs.Packet.{none}
 use Rattle.unflat.specs.Unflat.{packetIn}
-use Rattle.unflat.proofs.Unflat.{good, small, number-small, upTo, one-more}
+use Rattle.unflat.proofs.Unflat.{good, small, good-record, upTo, one-more}
 use Rattle.unflat.proofs.good_packet.Statement.{statement}
 use Rattle.unflat.proofs.good_packet.Tie as tie
 
@@ -32,22 +31,17 @@ shared-slice-read-count c = omega (arith, good _ (c .before .before .before .bef
 cast-count : tie.Need-cast-count Inv-loop μ-loop
 cast-count c = omega (arith, small _ (good _ (c .before .before .before .before .before .pre) .fields) .count)
 
-new-requires : tie.Need-new-requires Inv-loop μ-loop
-new-requires c κs = search needs
-
 loop-holds : tie.Need-loop-holds Inv-loop μ-loop
-unfolding newPacket
 loop-holds c =
-    let st = c .before .before .before .before .before .before in
-    let options : c .new .result .options ≡ newPacket .options = ap (λ (p : Packet). p .options) (c .new .ensures) in (
+    let st = c .before .before .before .before .before in (
       (omega arith, small _ (good _ (st .pre) .fields) .count),
       λ j.
           record {
-            header = c .before .before .before .before .header-in .ensures j;
-            token = c .before .before .before .range-in .ensures j;
-            count = getD (st .args .numbers .now) 8 0;
-            options = options j;
-            payload = c .before .before .range-in2 .ensures j;
+            header = c .before .before .before .header-in .ensures j;
+            token = c .before .before .range-in .ensures j;
+            count = getD (st .args .numbers .now) 10 0;
+            options = replicate maxOptions none;
+            payload = c .before .range-in2 .ensures j;
           },
     )
 
@@ -59,8 +53,8 @@ add-record-in c = omega arith
 
 record-in-requires : tie.Need-record-in-requires Inv-loop μ-loop
 record-in-requires c κs =
-    let g = good _ (c .before .before .before .before .before .before .before .before .pre) in
-    (omega (arith, g .records, c .loop-test .taken), number-small _ _ _ (g .numbers) (c .loop-test .taken))
+    let g = good _ (c .before .before .before .before .before .before .before .pre) in
+    (omega (arith, g .records, c .loop-test .taken), good-record _ _ _ (g .numbers) (c .loop-test .taken))
 
 mul-record : tie.Need-mul-record Inv-loop μ-loop
 mul-record c = omega arith
@@ -83,8 +77,8 @@ returns : tie.Need-returns Inv-loop μ-loop
 unfolding packetIn
 returns c =
     let s = c .before in
-    let l = s .before .before .before .before .before .before .before .args .numbers .now in
-    let past : s .loop .i ≡ getD l 8 0 = omega arith in
+    let l = s .before .before .before .before .before .before .args .numbers .now in
+    let past : s .loop .i ≡ getD l 10 0 = omega arith in
     s .loop .inv .1 ∙ ap (upTo l) past
 
 pub good-packet-spec : {M : Type 1} → statement M
@@ -98,7 +92,6 @@ good-packet-spec =
     range-in-requires-2
     shared-slice-read-count
     cast-count
-    new-requires
     loop-holds
     mul-record-in
     add-record-in

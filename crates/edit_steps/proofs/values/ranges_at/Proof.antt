@@ -20,6 +20,9 @@ separator-requires c κs = tt
 range-at-requires : tie.Need-range-at-requires Inv-loop μ-loop
 range-at-requires c κs = tt
 
+number-of-requires : tie.Need-number-of-requires Inv-loop μ-loop
+number-of-requires c κs = tt
+
 mul-ranges : tie.Need-mul-ranges Inv-loop μ-loop
 mul-ranges c = omega arith
 
@@ -40,6 +43,18 @@ mul-ranges-4 c = omega arith
 
 array-write-ranges-2 : tie.Need-array-write-ranges-2 Inv-loop μ-loop
 array-write-ranges-2 c = omega arith
+
+mul-ranges-5 : tie.Need-mul-ranges-5 Inv-loop μ-loop
+mul-ranges-5 c = omega arith
+
+add-ranges-2 : tie.Need-add-ranges-2 Inv-loop μ-loop
+add-ranges-2 c = omega arith
+
+mul-ranges-6 : tie.Need-mul-ranges-6 Inv-loop μ-loop
+mul-ranges-6 c = omega arith
+
+array-write-ranges-3 : tie.Need-array-write-ranges-3 Inv-loop μ-loop
+array-write-ranges-3 c = omega arith
 
 add-count : tie.Need-add-count Inv-loop μ-loop
 add-count c = omega arith
@@ -71,6 +86,7 @@ ranges-at-spec =
     loop-holds
     separator-requires
     range-at-requires
+    number-of-requires
     mul-ranges
     mul-ranges-2
     array-write-ranges
@@ -78,6 +94,10 @@ ranges-at-spec =
     add-ranges
     mul-ranges-4
     array-write-ranges-2
+    mul-ranges-5
+    add-ranges-2
+    mul-ranges-6
+    array-write-ranges-3
     add-count
     add-i
     byte-at-requires

@@ -8,10 +8,10 @@ use Rattle.edit_steps.proofs.values.values_at.Statement.{statement}
 use Rattle.edit_steps.proofs.values.values_at.Tie as tie
 
 abbrev Inv-loop : tie.InvT-loop
-Inv-loop line at store₀ place ranges₀ count₀ end₀ next₀ i₀ store ranges count end next i = length store ≡ length store₀
+Inv-loop line at edits₀ place ranges₀ count₀ end₀ next₀ i₀ edits ranges count end next i = length edits ≡ length edits₀
 
 abbrev μ-loop : tie.MeasureT-loop
-μ-loop line at store₀ place ranges₀ count₀ end₀ next₀ i₀ store ranges count end next i = length line - i
+μ-loop line at edits₀ place ranges₀ count₀ end₀ next₀ i₀ edits ranges count end next i = length line - i
 
 loop-holds : tie.Need-loop-holds Inv-loop μ-loop
 loop-holds c = omega arith
@@ -45,6 +45,18 @@ mul-ranges-4 c = omega arith
 
 array-write-ranges-2 : tie.Need-array-write-ranges-2 Inv-loop μ-loop
 array-write-ranges-2 c = omega arith
+
+mul-ranges-5 : tie.Need-mul-ranges-5 Inv-loop μ-loop
+mul-ranges-5 c = omega arith
+
+add-ranges-2 : tie.Need-add-ranges-2 Inv-loop μ-loop
+add-ranges-2 c = omega arith
+
+mul-ranges-6 : tie.Need-mul-ranges-6 Inv-loop μ-loop
+mul-ranges-6 c = omega arith
+
+array-write-ranges-3 : tie.Need-array-write-ranges-3 Inv-loop μ-loop
+array-write-ranges-3 c = omega arith
 
 add-count : tie.Need-add-count Inv-loop μ-loop
 add-count c = omega arith
@@ -90,6 +102,10 @@ values-at-spec =
     add-ranges
     mul-ranges-4
     array-write-ranges-2
+    mul-ranges-5
+    add-ranges-2
+    mul-ranges-6
+    array-write-ranges-3
     add-count
     add-i
     byte-at-requires

@@ -14,7 +14,7 @@ part-requires c κs = search needs
 returns : tie.Need-returns
 returns c =
     let whose = c .before .range .ensures in
-    (c .part .ensures .0 ∙ ap (bytesOf _) whose, c .part .ensures .1 ∙ ap (placeOf _ _) whose)
+    (c .part .ensures .0 ∙ ap (bytesOf _) whose, c .part .ensures .1 ∙ ap (placeOf _ _ _) whose)
 
 pub value-spec : {M : Type 1} → statement M
 value-spec = tie.close (tie.spec range-requires part-requires returns)

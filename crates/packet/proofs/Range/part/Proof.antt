@@ -1,59 +1,30 @@
--- `Range::part`: each return by the test of the range's end.
-use Rattle.packet.specs.Packet.{bytesIn}
-use mathlib.Core.Path.{refl}
-use native.Mathlib.Nat.{add-sub-cancel-left}
-use borrow.Author.Tests.{le-leb, lt-leb}
+-- `Range::part`: the store that the home names, and the part of it.
+use mathlib.Core.Path.{_≡_, refl, sym, ap, _∙_}
 use borrow.Author.Needs.{needs}
+use denote.Ref.{now, ptr}
+use Rattle.packet.specs.Packet.{chosen}
+use Rattle.packet.specs.declared.Home.{Home}
+use Rattle.packet.specs.declared.Home.the-variants.{Datagram, Edits}
 use Rattle.packet.proofs.Range.part.Statement.{statement}
 use Rattle.packet.proofs.Range.part.Tie as tie
 
-cast-start : tie.Need-cast-start
-cast-start c = search needs
+-- What is asked of the chosen one is the choice of what is asked of each.
+chosen-ap {k l} : {A : Type k} {B : Type l} (f : A → B) (h : Home) (d e : A) → f (chosen h d e) ≡ chosen h (f d) (f e)
+chosen-ap f Datagram d e = refl
+chosen-ap f Edits d e = refl
 
-cast-end : tie.Need-cast-end
-cast-end c = search needs
+store-requires : tie.Need-store-requires
+store-requires c κs = search needs
 
-add-end : tie.Need-add-end
-add-end c = search needs
-
-sub-result : tie.Need-sub-result
-sub-result c = search needs
-
-part-result-start : tie.Need-part-result-start
-part-result-start c = search needs
-
-part-result-end : tie.Need-part-result-end
-part-result-end c = search needs
+part-in-requires : tie.Need-part-in-requires
+part-in-requires c κs = search needs
 
 returns : tie.Need-returns
-unfolding bytesIn
-returns c = (rw (lt-leb _ _ (c .before .if1 .taken)) refl, rw (lt-leb _ _ (c .before .if1 .taken)) refl)
-
-sub-result-2 : tie.Need-sub-result-2
-sub-result-2 c = search needs
-
-part-result-start-2 : tie.Need-part-result-start-2
-part-result-start-2 c = search needs
-
-part-result-end-2 : tie.Need-part-result-end-2
-part-result-end-2 c = search needs
-
-returns-2 : tie.Need-returns-2
-unfolding bytesIn
-returns-2 c = (rw (le-leb _ _ (c .before .if1 .left), add-sub-cancel-left) refl, rw (le-leb _ _ (c .before .if1 .left)) refl)
+returns c =
+    let a = c .before .before .before .before .args in
+    let bytes = ap now (c .before .store .ensures) ∙ chosen-ap now (a .self .home) (a .datagram) (a .edits) in
+    let place = ap ptr (c .before .store .ensures) ∙ chosen-ap ptr (a .self .home) (a .datagram) (a .edits) in
+    (rw (sym bytes) (c .part-in .ensures .0), rw (sym bytes, sym place) (c .part-in .ensures .1))
 
 pub part-spec : {M : Type 1} → statement M
-part-spec =
-    tie.close
-    (tie.spec
-    cast-start
-    cast-end
-    add-end
-    sub-result
-    part-result-start
-    part-result-end
-    returns
-    sub-result-2
-    part-result-start-2
-    part-result-end-2
-    returns-2)
+part-spec = tie.close (tie.spec store-requires part-in-requires returns)

@@ -8,10 +8,10 @@ use Rattle.packet_words.proofs.read.options_at.Statement.{statement}
 use Rattle.packet_words.proofs.read.options_at.Tie as tie
 
 abbrev Inv-loop : tie.InvT-loop
-Inv-loop line at store₀ place records₀ start count₀ end₀ next₀ before₀ store records count end next before = length store ≡ length store₀
+Inv-loop line at store₀ records₀ start count₀ ends₀ next₀ mark₀ store records count ends next mark = length store ≡ length store₀
 
 abbrev μ-loop : tie.MeasureT-loop
-μ-loop line at store₀ place records₀ start count₀ end₀ next₀ before₀ store records count end next before = length line - count
+μ-loop line at store₀ records₀ start count₀ ends₀ next₀ mark₀ store records count ends next mark = length line - count
 
 after-requires : tie.Need-after-requires Inv-loop μ-loop
 after-requires c κs = tt
@@ -31,14 +31,11 @@ loop-holds c = omega arith
 number-at-requires : tie.Need-number-at-requires Inv-loop μ-loop
 number-at-requires c κs = tt
 
-bytes-at-requires : tie.Need-bytes-at-requires Inv-loop μ-loop
-bytes-at-requires c κs = tt
+value-at-requires : tie.Need-value-at-requires Inv-loop μ-loop
+value-at-requires c κs = tt
 
 low16-requires : tie.Need-low16-requires Inv-loop μ-loop
 low16-requires c κs = tt
-
-range-requires : tie.Need-range-requires Inv-loop μ-loop
-range-requires c κs = tt
 
 record-requires : tie.Need-record-requires Inv-loop μ-loop
 record-requires c κs = tt
@@ -85,9 +82,8 @@ options-at-spec =
     returns
     loop-holds
     number-at-requires
-    bytes-at-requires
+    value-at-requires
     low16-requires
-    range-requires
     record-requires
     mul-records
     array-set-from-records

@@ -8,10 +8,10 @@ use Rattle.packet_words.proofs.shown.put_options.Statement.{statement}
 use Rattle.packet_words.proofs.shown.put_options.Tie as tie
 
 abbrev Inv-loop : tie.InvT-loop
-Inv-loop out₀ place packet store count next₀ i₀ out next i = length out ≡ length out₀
+Inv-loop out₀ place packet datagram edits count next₀ i₀ out next i = length out ≡ length out₀
 
 abbrev μ-loop : tie.MeasureT-loop
-μ-loop out₀ place packet store count next₀ i₀ out next i = count - i
+μ-loop out₀ place packet datagram edits count next₀ i₀ out next i = count - i
 
 option-count-requires : tie.Need-option-count-requires Inv-loop μ-loop
 option-count-requires c κs = tt

@@ -34,6 +34,9 @@ range-at-requires c κs = tt
 low16-requires : tie.Need-low16-requires Inv-loop μ-loop
 low16-requires c κs = tt
 
+record-requires : tie.Need-record-requires Inv-loop μ-loop
+record-requires c κs = tt
+
 mul-records : tie.Need-mul-records Inv-loop μ-loop
 mul-records c = omega arith
 
@@ -72,6 +75,7 @@ records-at-spec =
     number-at-requires
     range-at-requires
     low16-requires
+    record-requires
     mul-records
     array-set-from-records
     add-i

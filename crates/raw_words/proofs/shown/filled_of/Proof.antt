@@ -22,6 +22,9 @@ array-copy-out-record c = omega arith
 add-i : tie.Need-add-i Inv-loop μ-loop
 add-i c = omega arith
 
+is-empty-requires : tie.Need-is-empty-requires Inv-loop μ-loop
+is-empty-requires c κs = tt
+
 loop-less : tie.Need-loop-less Inv-loop μ-loop
 loop-less c = omega arith
 
@@ -47,6 +50,7 @@ filled-of-spec =
     mul-record
     array-copy-out-record
     add-i
+    is-empty-requires
     loop-less
     loop-again
     loop-less-2

@@ -1,10 +1,10 @@
--- `rickwinter_read`: what was read, handed on.
+-- `rickwinter_v2_read`: what was read, handed on.
 use mathlib.Core.Path.{_∙_}
 use Rattle.reading.specs.Reading.{reading}
 use Rattle.ffi.proofs.Answered.{handed-over}
 use borrow.Author.Needs.{needs}
-use Rattle.ffi.proofs.rickwinter_read.Statement.{statement}
-use Rattle.ffi.proofs.rickwinter_read.Tie as tie
+use Rattle.ffi.proofs.rickwinter_v2_read.Statement.{statement}
+use Rattle.ffi.proofs.rickwinter_v2_read.Tie as tie
 
 from-bytes-in-requires : tie.Need-from-bytes-in-requires
 from-bytes-in-requires c κs = search needs
@@ -25,7 +25,7 @@ returns c =
     let h = handed-over (reading (a .strict) (a .datagram .now)) _ (t .before .before .from-bytes-in .ensures) (a .out .now) _ _ (t .hand-over .ensures) in
     (c .number-of .ensures ∙ h .0, h .1)
 
-pub rickwinter-read-spec : {M : Type 1} → statement M
-rickwinter-read-spec =
+pub rickwinter-v2-read-spec : {M : Type 1} → statement M
+rickwinter-v2-read-spec =
     tie.close
     (tie.spec from-bytes-in-requires hand-over-requires number-of-requires same-length returns)
