@@ -2,6 +2,7 @@
 //! docs/ANSWERS.md says what requests and answers are.
 #![forbid(unsafe_code)]
 
+mod compaction;
 mod comparison;
 mod counts;
 mod edits;

@@ -57,6 +57,7 @@ fn answer_request(line: &[u8]) -> Option<String> {
         | b"register-raw"
         | b"get-raw"
         | b"edit-raw"
+        | b"compact"
         | b"properties"
         | b"plan"
         | b"plan-check"
@@ -238,6 +239,7 @@ impl Script {
                 }
                 self.packet.set_observe_value(value);
             }
+            b"compact" => return Some(self.compact()),
             b"version" => self.packet.header.set_version(words.byte()?),
             b"type" => self.packet.header.set_type(words.kind()?),
             b"class" => self.packet.header.code = words.class()?,
@@ -245,6 +247,25 @@ impl Script {
             _ => return None,
         }
         Some(Step::Taken)
+    }
+}
+
+/// A longer value can't be compacted.
+const LONGEST_VALUE: usize = 65_804;
+
+impl Script {
+    /// Nothing is dead in coap-lite's packet, which stays: its bytes are those that the edit store has then taken.
+    fn compact(&mut self) -> Step {
+        let parts = Parts::of(&self.packet);
+        if parts.options.iter().any(|(_, value)| value.len() > LONGEST_VALUE) {
+            return Step::Outside;
+        }
+        self.used = 0;
+        if self.take(parts.store()) {
+            Step::Taken
+        } else {
+            Step::NoRoom
+        }
     }
 }
 

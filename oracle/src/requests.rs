@@ -90,7 +90,7 @@ pub fn outside(out: &mut impl Write) -> io::Result<()> {
 /// The kinds of request that have a strict form; those that coap-lite has no answer to, with no plain form or over two stores;
 /// and those whose answers have counts of zeros, which coap-lite doesn't tell.
 const BOTH: [&str; 7] = ["read", "write", "write-raw", "block-new", "block-read", "block-write", "block-size"];
-const STRICT: [&str; 10] = [
+const STRICT: [&str; 11] = [
     "register",
     "properties",
     "plan",
@@ -101,6 +101,7 @@ const STRICT: [&str; 10] = [
     "register-raw",
     "get-raw",
     "edit-raw",
+    "compact",
 ];
 const COUNTED: [&str; 4] = ["uint-read", "to-uint", "block-read", "edit"];
 

@@ -6,7 +6,7 @@
 use crate::raw::{Raw, MOST_OPTIONS};
 use crate::uints::Uint;
 use crate::words::{hex, kind, kind_number, number, yes, Parts, Words, DEFAULT_LIMIT, LONGEST_LINE, MOST_ROOM};
-use crate::{counts, edits, frames, getters, plain_answers, plans, register, uints};
+use crate::{compaction, counts, edits, frames, getters, plain_answers, plans, register, uints};
 use coap_lite::MessageClass;
 
 /// 01, What a packet is here: the most bytes of a datagram or a store.
@@ -58,6 +58,7 @@ fn answer_request(line: &[u8]) -> Option<Judged<String>> {
         b"register" => register::check(&Raw::named(&mut words)?),
         b"register-raw" => register::check(&Raw::of(&mut words)?),
         b"get-raw" => Ok(getters::answer(&mut words)?),
+        b"compact" => Ok(compaction::answer(&mut words)?),
         // what follows a step that is refused isn't looked at
         b"edit-raw" => return Some(Ok(edits::answer(&mut words)?)),
         b"properties" => Ok(register::properties(words.option_number()?).map(yes).join(" ")),

@@ -38,6 +38,10 @@ fn answer_more(
     out: &mut [u8],
     place: usize,
 ) -> usize {
+    let name = compact_requests::named(line);
+    if name.index != NOWHERE {
+        return compact_requests::answer(line, name.next, store, room, out, place);
+    }
     answer_value(line, store, room).put(out, place, store, room)
 }
 

@@ -36,7 +36,7 @@ pub fn answer(
 ) -> usize {
     let begun = start(line, at, store);
     let length = begun.length;
-    let script = edited(begun.script, line, store, EDITS, EDITS + SIZE);
+    let script = scripted(begun, line, store, room);
     put_script(
         script,
         line,
@@ -46,6 +46,15 @@ pub fn answer(
         out,
         place,
     )
+}
+
+// Plays a script beside a copy of the datagram, since its steps write into the store that holds both.
+fn scripted(begun: Begun, line: &[u8], store: &mut [u8], room: &mut [u8]) -> Script {
+    let length = begun.length;
+    let script = begun.script;
+    put_bytes(room, 0, part(store, 0, length));
+    let datagram = part(room, 0, length);
+    edited(script, line, datagram, store, EDITS, EDITS + SIZE)
 }
 
 // Puts the answer to a script.
@@ -80,11 +89,18 @@ fn put_messages<'a>(
 }
 
 // Plays a script over the part of the store that is its edit store.
-fn edited(script: Script, line: &[u8], store: &mut [u8], from: usize, to: usize) -> Script {
+fn edited(
+    script: Script,
+    line: &[u8],
+    datagram: &[u8],
+    store: &mut [u8],
+    from: usize,
+    to: usize,
+) -> Script {
     if to < from || store.len() < to {
         return script;
     }
-    played(false, script, line, &mut store[from..to])
+    played(false, script, line, datagram, &mut store[from..to])
 }
 
 // A script before its first step, and how long the datagram is.

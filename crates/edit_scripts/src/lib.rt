@@ -1,5 +1,8 @@
 // Edit scripts: a packet, changed step by step.
+use compacting::Compacted;
+use compacting::compact;
 use edit_steps::ASK;
+use edit_steps::COMPACT;
 use edit_steps::Step;
 use edit_steps::raw_step_at;
 use edit_steps::step_at;
@@ -8,6 +11,7 @@ use editing::Edited;
 use packet::Packet;
 use refusal::Outcome;
 use refusal::Refusal;
+use refusal::Written;
 use words::NOWHERE;
 use words::byte_at;
 use words::ended;
@@ -65,6 +69,28 @@ impl Script {
         }
     }
 
+    // After a compaction, which takes the edit store up to the new end.
+    fn compacted(self, compacted: Compacted, next: usize) -> Script {
+        let outcome = compacted.outcome;
+        let packet = compacted.packet;
+        match outcome {
+            Written::Length(end) => Script {
+                packet,
+                used: end,
+                next,
+                refused: 0,
+                asked: self.asked,
+            },
+            Written::Refused(why) => Script {
+                packet,
+                used: self.used,
+                next,
+                refused: why.number() as u64,
+                asked: self.asked,
+            },
+        }
+    }
+
     // After the step that asks, which is the last: the line ends after it.
     fn asking(mut self, asked: usize, next: usize) -> Script {
         self.asked = asked;
@@ -81,8 +107,9 @@ fn number_of(outcome: Outcome) -> u64 {
     }
 }
 
-// Takes the steps of a script, up to the first that is refused or no step. Those of a raw one name ranges.
-pub fn played(raw: bool, start: Script, line: &[u8], edits: &mut [u8]) -> Script {
+// Takes the steps of a script, up to the first that is refused or no step. Those of a raw one name ranges, and it neither asks
+// nor compacts.
+pub fn played(raw: bool, start: Script, line: &[u8], datagram: &[u8], edits: &mut [u8]) -> Script {
     let mut script = start;
     let mut i = 0;
     while i < line.len() {
@@ -93,24 +120,51 @@ pub fn played(raw: bool, start: Script, line: &[u8], edits: &mut [u8]) -> Script
         if byte_at(line, script.next) != b' ' {
             return script;
         }
-        script = stepped(raw, script, line, edits);
+        script = stepped(raw, script, line, datagram, edits);
     }
     script
 }
 
-fn stepped(raw: bool, script: Script, line: &[u8], edits: &mut [u8]) -> Script {
+fn stepped(raw: bool, script: Script, line: &[u8], datagram: &[u8], edits: &mut [u8]) -> Script {
     if raw {
-        let step = raw_step_at(line, script.next, script.used);
-        if step.index == ASK {
-            return script.lost();
-        }
-        return taken(script, step, line, edits);
+        return raw_stepped(script, line, edits);
     }
     let step = step_at(line, script.next, edits, script.used);
     if step.index == ASK {
         return asked(script, line, step.asked);
     }
+    if step.index == COMPACT {
+        return compacted(script, ended(line, step.asked), datagram, edits);
+    }
     taken(script, step, line, edits)
+}
+
+fn raw_stepped(script: Script, line: &[u8], edits: &mut [u8]) -> Script {
+    let step = raw_step_at(line, script.next, script.used);
+    if step.index == ASK || step.index == COMPACT {
+        return script.lost();
+    }
+    taken(script, step, line, edits)
+}
+
+// Compacts, with a second buffer of its own.
+fn compacted(script: Script, next: usize, datagram: &[u8], edits: &mut [u8]) -> Script {
+    if next == NOWHERE {
+        return script.lost();
+    }
+    let packet = script.packet;
+    let mut second = [0u8; 70000];
+    let compacted = compact_over(packet, datagram, edits, &mut second);
+    script.compacted(compacted, next)
+}
+
+fn compact_over(
+    packet: Packet,
+    datagram: &[u8],
+    edits: &mut [u8],
+    second: &mut [u8; 70000],
+) -> Compacted {
+    compact(packet, datagram, edits, second)
 }
 
 fn asked(script: Script, line: &[u8], at: usize) -> Script {

@@ -8,6 +8,7 @@ pub use names::ASK;
 pub use names::CLASS;
 pub use names::CLEAR;
 pub use names::CLEAR_ALL;
+pub use names::COMPACT;
 pub use names::CONTENT_FORMAT;
 pub use names::ID;
 pub use names::OBSERVE;

@@ -2,8 +2,8 @@
 use words::Named;
 use words::name_at;
 
-const NAMES: [u8; 87] =
-    *b"add;set;clear;content-format;observe;version;type;id;token;payload;clear-all;class;ask;";
+const NAMES: [u8; 95] =
+    *b"add;set;clear;content-format;observe;version;type;id;token;payload;clear-all;class;ask;compact;";
 
 pub const ADD: usize = 0;
 
@@ -30,6 +30,8 @@ pub const CLEAR_ALL: usize = 10;
 pub const CLASS: usize = 11;
 
 pub const ASK: usize = 12;
+
+pub const COMPACT: usize = 13;
 
 // Which step stands here.
 pub fn named(line: &[u8], at: usize) -> Named {

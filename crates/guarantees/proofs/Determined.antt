@@ -19,7 +19,7 @@ use Rattle.refusal.specs.Answer.{Beside}
 use Rattle.refusal.proofs.Answers.{same-given}
 use Rattle.packet.specs.declared.Packet.{Packet}
 use Rattle.reading.specs.Reading.{decoded}
-use Rattle.guarantees.specs.Determined.{TellsApart, OneAnswer, Told, OneVerdict, OnePlan, OneConversion}
+use Rattle.guarantees.specs.Determined.{TellsApart, OneAnswer, Told, OneVerdict, OnePlan, OneConversion, OneCompaction}
 
 pub one-answer : OneAnswer
 one-answer A B f t d x y e q = t x y (e ∙ sym q)
@@ -86,3 +86,9 @@ one-verdict bytes held values r s p q = one-outcome r s (p ∙ sym q)
 
 pub one-plan : OnePlan
 one-plan bytes held old r s new other p q = (one-written r s (p .answer ∙ sym (q .answer)), p .list ∙ sym (q .list))
+
+pub one-compaction : OneCompaction
+one-compaction p s second r q edits also buffer other c x =
+    let outcome = one-written (r .outcome) (q .outcome) (c .answer ∙ sym (x .answer)) in
+    let packet = c .packet ∙ sym (x .packet) in
+    (λ k. record { outcome = outcome k; packet = packet k }, c .edits ∙ sym (x .edits), c .buffer ∙ sym (x .buffer))

@@ -17,10 +17,11 @@ use Rattle.refusal.proofs.Distinct.{number-listed, numbers-are}
 use Rattle.packet.specs.Packet.{newPacket}
 use Rattle.packet.specs.declared.Packet.{Packet}
 use Rattle.judging.specs.Judge.{lengthsOf}
+use Rattle.compacting.specs.Compacting.{liveBytes, compacting, packetBeside}
 use Rattle.reading.specs.Reading.{reading}
 use Rattle.register.proofs.Order.{none-kept}
 use Rattle.writing.specs.Writing.{bytesWritten}
-use Rattle.guarantees.specs.Refusals.{Numbered, OutputKept, DoneOr, NoPacketRead, PacketKept, StoreKept, HeaderKept, NothingKept, ListKept, FrameOutputKept}
+use Rattle.guarantees.specs.Refusals.{Numbered, OutputKept, DoneOr, NoPacketRead, PacketKept, StoreKept, HeaderKept, NothingKept, ListKept, FrameOutputKept, CompactionKept}
 use Rattle.planning.specs.Planner.{values, planning}
 use Rattle.framing.specs.Framing.{bytesOf}
 
@@ -58,3 +59,13 @@ nothing-kept = none-kept
 pub list-kept : ListKept
 list-kept bytes held old r new q e is =
     output-kept (planning (length old) bytes held) 0 (values bytes held) old r new (q .answer) (q .list) e is
+
+-- What stands beside a refused compaction is the packet as it came.
+packet-left : (a : Answer ℕ) (p q : Packet) (r : Written) → written r ≡ a → q ≡ packetBeside a p → (e : Refusal) → r ≡ Refused e → q ≡ p
+packet-left (given n) p q r w s e is = not-refused (sym w ∙ ap written is)
+packet-left (refused k) p q r w s e is = s
+
+pub compaction-kept : CompactionKept
+compaction-kept p s second r edits buffer c e is =
+    let a = compacting (lengthsOf s) (length second) p in
+    (packet-left a p (r .packet) (r .outcome) (c .answer) (c .packet) e is, output-kept a 0 (liveBytes s p) (s .edits) (r .outcome) edits (c .answer) (c .edits) e is, output-kept a 0 (liveBytes s p) second (r .outcome) buffer (c .answer) (c .buffer) e is)

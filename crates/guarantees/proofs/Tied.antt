@@ -32,6 +32,7 @@ use Rattle.framing.specs.Framing.{ToFrame, FromFrame}
 use Rattle.plan_checking.specs.Plan.{Checks as ChecksPlan}
 use Rattle.planning.specs.Planner.{Plans}
 use Rattle.framing.specs.Framing.{Converts}
+use Rattle.compacting.specs.Compacting.{Compacts}
 use Rattle.guarantees.specs.Homes.{HandsBack}
 use Rattle.packet.proofs.Range.part.Reads as PartOf
 use Rattle.packet.proofs.OptionRecord.value.Reads as ValueOf
@@ -68,6 +69,7 @@ use Rattle.framing.proofs.to_frame.Reads as FrameOut
 use Rattle.framing.proofs.from_frame.Reads as FrameBack
 use Rattle.plan_checking.proofs.check.Reads as CheckPlan
 use Rattle.planning.proofs.plan.Reads as MakePlan
+use Rattle.compacting.proofs.compact.Reads as Compact
 use Rattle.header.proofs.Header.set_code.Reads as SetCode
 use Rattle.option_value.proofs.OptionValueU8.try_from.Reads as FromU8
 use Rattle.option_value.proofs.OptionValueU16.try_from.Reads as FromU16
@@ -211,3 +213,7 @@ check-plan k a r x h = h
 
 plan : (k : _) (a : _) (r : _) (x : _) → MakePlan.Post k a r x → Plans (a .0) (now (a .1 .0)) (now (a .1 .1 .0)) r (now (x .1 .1 .0))
 plan k a r x h = h
+
+-- Compaction.
+compact : (k : _) (a : _) (r : _) (x : _) → Compact.Post k a r x → Compacts (a .0) (stores (now (a .1 .0)) (now (a .1 .1 .0))) (now (a .1 .1 .1 .0)) r (now (x .1 .1 .0)) (now (x .1 .1 .1 .0))
+compact k a r x h = h

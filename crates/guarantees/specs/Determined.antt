@@ -24,6 +24,8 @@ use Rattle.plan_checking.specs.Plan.{Checks}
 use Rattle.planning.specs.Planner.{Plans}
 use Rattle.packet.specs.Packet.{Stores}
 use Rattle.packet.specs.declared.Packet.{Packet}
+use Rattle.compacting.specs.Compacting.{Compacts}
+use Rattle.compacting.specs.declared.Compacted.{Compacted}
 
 -- Different answers are told differently.
 abbrev pub TellsApart : {A B : Type 0} → (A → B) → Type 0
@@ -72,3 +74,9 @@ abbrev pub OnePlan : Type 0
 OnePlan =
     (bytes : ℕ) (held old : List ℕ) (r s : Written) (new other : List ℕ)
     → Plans bytes held old r new → Plans bytes held old s other → (r ≡ s) × (new ≡ other)
+
+-- A compaction has one answer, and leaves one edit store and one second buffer.
+abbrev pub OneCompaction : Type 0
+OneCompaction =
+    (p : Packet) (s : Stores) (second : List ℕ) (r q : Compacted) (edits also buffer other : List ℕ) → Compacts p s second r edits buffer
+    → Compacts p s second q also other → (r ≡ q) × (edits ≡ also) × (buffer ≡ other)

@@ -10,6 +10,8 @@ use Rattle.packet.specs.declared.Packet.{Packet}
 use Rattle.packet.specs.declared.Range.{Range}
 use Rattle.packet.specs.declared.Home.the-variants.{Datagram}
 use Rattle.splicing.specs.declared.Edited.{Edited}
+use Rattle.compacting.specs.Compacting.{Compacts}
+use Rattle.compacting.specs.declared.Compacted.{Compacted}
 use Rattle.typed_options.specs.Apart.{Apart}
 use Rattle.typed_options.specs.Setters.{Sets}
 
@@ -34,3 +36,9 @@ abbrev pub SetterLeaves : Type 0
 SetterLeaves =
     (datagram old new : List ℕ) (p : Packet) (a : Answer Packet) (start : ℕ) (bytes : List ℕ) (e : Edited) → Sets p a start bytes old e new
     → (r : Range) → Apart start (length bytes) r → bytesOf (stores datagram new) r ≡ bytesOf (stores datagram old) r
+
+-- Compaction, done or refused, leaves what every range of the datagram names.
+abbrev pub CompactionLeaves : Type 0
+CompactionLeaves =
+    (p : Packet) (s : Stores) (second : List ℕ) (r : Compacted) (edits buffer : List ℕ) → Compacts p s second r edits buffer
+    → (range : Range) → range .home ≡ Datagram → bytesOf (stores (s .datagram) edits) range ≡ bytesOf s range

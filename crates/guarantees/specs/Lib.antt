@@ -13,5 +13,6 @@ pub mod Padded
 pub mod Blocks
 pub mod Texts
 pub mod Frames
+pub mod Compaction
 pub mod Plans
 pub mod Samples

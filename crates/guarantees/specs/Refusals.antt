@@ -32,6 +32,8 @@ use Rattle.register.specs.Check.{Checks}
 use Rattle.register.specs.declared.Checked.{Checked}
 use Rattle.register.specs.declared.Verdict.the-variants.{Passes}
 use Rattle.planning.specs.Planner.{Plans}
+use Rattle.compacting.specs.Compacting.{Compacts}
+use Rattle.compacting.specs.declared.Compacted.{Compacted}
 
 -- A refusal's number is one of those that there are, and each of those is a refusal's.
 abbrev pub Numbered : Type 0
@@ -79,3 +81,9 @@ abbrev pub ListKept : Type 0
 ListKept =
     (bytes : ℕ) (held old : List ℕ) (r : Written) (new : List ℕ) → Plans bytes held old r new
     → (e : Refusal) → r ≡ Refused e → new ≡ old
+
+-- A refused compaction hands back the packet as it came, and leaves edit store and second buffer as they were.
+abbrev pub CompactionKept : Type 0
+CompactionKept =
+    (p : Packet) (s : Stores) (second : List ℕ) (r : Compacted) (edits buffer : List ℕ) → Compacts p s second r edits buffer
+    → (e : Refusal) → r .outcome ≡ Refused e → (r .packet ≡ p) × (edits ≡ s .edits) × (buffer ≡ second)

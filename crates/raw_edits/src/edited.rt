@@ -52,11 +52,16 @@ pub fn edit(line: &[u8], at: usize, store: &mut [u8]) -> Reply {
     let ends = raw.ends;
     let start = Script::start(packet, Outcome::Done, 0, raw.next);
     let end = ends.edits;
-    if end < EDITS || store.len() < end {
-        return Reply::of(Told::no_request());
-    }
-    let script = played(true, start, line, &mut store[EDITS..end]);
+    let script = edited(start, line, store, EDITS, end);
     tell(script, line, ends)
+}
+
+// Plays a script over the part of the store that is its edit store. No step of a raw one looks at the datagram.
+fn edited(script: Script, line: &[u8], store: &mut [u8], from: usize, to: usize) -> Script {
+    if to < from || store.len() < to {
+        return script;
+    }
+    played(true, script, line, b"", &mut store[from..to])
 }
 
 // The packet as the steps left it, after the refusal that ended them if there is one.

@@ -27,7 +27,7 @@ fn length_of(written: Written) -> usize {
 }
 
 // Whether the bytes from a place on are as they were before.
-fn are_before(room: &[u8], from: usize) -> bool {
+pub fn are_before(room: &[u8], from: usize) -> bool {
     let mut i = from;
     while i < room.len() {
         if room[i] != BEFORE {

@@ -118,6 +118,23 @@ impl Varied {
         self.bounds(&parts)
     }
 
+    /// A packet to be compacted, with a second buffer and most often an edit store beside what its live bytes take.
+    pub fn compacted(&mut self) -> String {
+        let mut raw = self.raw();
+        let sum = raw.ranges().iter().map(|&range| raw.part(range).len()).sum::<usize>().min(2 * STORE);
+        let edits = &mut raw.stores[Home::Edits as usize];
+        if !self.random.one_in(3) {
+            let length = self.random.near(&[sum]).max(edits.len());
+            edits.resize(length, 0xee);
+        }
+        let room = match self.random.below(4) {
+            0 | 1 => self.random.near(&[sum]) as u64,
+            2 => self.random.below(8) as u64,
+            _ => MOST_ROOM,
+        };
+        format!("compact {} {}", room.min(MOST_ROOM), raw.shown())
+    }
+
     fn raw_edits(&mut self, raw: &Raw) -> String {
         let mut line = format!("edit-raw {}", raw.shown());
         for _ in 0..=self.random.below(5) {
@@ -149,5 +166,21 @@ impl Varied {
     /// The words of a packet, each of its values in either store.
     pub fn homed(&mut self, parts: &Parts) -> String {
         parts.asked_at(&mut || self.home())
+    }
+}
+
+/// Every token and payload of ranges beside the ends of two stores of up to two bytes: written, and compacted in each room.
+pub fn small(put: &mut dyn FnMut(String)) {
+    const STORES: [&str; 3] = ["-", "61", "6263"];
+    let places = (0..3).flat_map(|start| (0..3).map(move |length| format!("{start}+{length}")));
+    let ranges: Vec<String> = places.flat_map(|place| [place.clone(), format!("e:{place}")]).collect();
+    for datagram in STORES {
+        for edits in STORES {
+            for (token, payload) in ranges.iter().flat_map(|token| ranges.iter().map(move |payload| (token, payload))) {
+                let raw = format!("1 0 Request.Get 1 {datagram} {edits} {token} - 0 {payload}");
+                put(format!("write-raw none 8 {raw}"));
+                (1..=3).for_each(|room| put(format!("compact {room} {raw}")));
+            }
+        }
     }
 }

@@ -9,11 +9,15 @@ const OBSERVE: u16 = 6;
 const CONTENT_FORMAT: u16 = 12;
 
 /// A script on its way, with how many values each number has: a number with none is one that coap-lite still calls
-/// present.
+/// present. The bytes of the edit store that are used, and how many are live at most: token, values by their numbers, payload.
+#[derive(Default)]
 struct Script {
     line: String,
     counts: BTreeMap<u16, usize>,
     used: usize,
+    token: usize,
+    values: BTreeMap<u16, usize>,
+    payload: usize,
 }
 
 impl Script {
@@ -40,16 +44,19 @@ impl Script {
     fn add(&mut self, number: u16, value: &[u8]) {
         if self.records() < MOST_OPTIONS && self.fits(value.len()) {
             *self.counts.entry(number).or_default() += 1;
+            *self.values.entry(number).or_default() += value.len();
             self.step(format_args!("add {number} {}", hex(value)));
         }
     }
 
     fn set(&mut self, number: u16, values: &[Vec<u8>]) {
         let records = self.records() - self.of(number) + values.len();
-        if records > MOST_OPTIONS || !self.fits(values.iter().map(Vec::len).sum()) {
+        let bytes = values.iter().map(Vec::len).sum();
+        if records > MOST_OPTIONS || !self.fits(bytes) {
             return;
         }
         self.counts.insert(number, values.len());
+        self.values.insert(number, bytes);
         let values: Vec<String> = values.iter().map(|value| hex(value)).collect();
         let values = if values.is_empty() { "none".into() } else { values.join(",") };
         self.step(format_args!("set {number} {values}"));
@@ -59,12 +66,14 @@ impl Script {
         if let Some(count) = self.counts.get_mut(&number) {
             *count = 0;
         }
+        self.values.remove(&number);
         self.step(format_args!("clear {number}"));
     }
 
     fn observe(&mut self, value: u32) {
         if self.records() - self.of(OBSERVE) < MOST_OPTIONS && self.fits(4) {
             self.counts.insert(OBSERVE, 1);
+            self.values.insert(OBSERVE, 4);
             self.step(format_args!("observe {value}"));
         }
     }
@@ -72,7 +81,37 @@ impl Script {
     fn content_format(&mut self, format: usize) {
         if self.records() < MOST_OPTIONS && self.fits(2) {
             *self.counts.entry(CONTENT_FORMAT).or_default() += 1;
+            *self.values.entry(CONTENT_FORMAT).or_default() += 2;
             self.step(format_args!("content-format {format}"));
+        }
+    }
+
+    fn clear_all(&mut self) {
+        self.counts.clear();
+        self.values.clear();
+        self.step(format_args!("clear-all"));
+    }
+
+    fn token(&mut self, token: &[u8]) {
+        if self.fits(token.len()) {
+            self.token = token.len();
+            self.step(format_args!("token {}", hex(token)));
+        }
+    }
+
+    fn payload(&mut self, payload: &[u8]) {
+        if self.fits(payload.len()) {
+            self.payload = payload.len();
+            self.step(format_args!("payload {}", hex(payload)));
+        }
+    }
+
+    /// What isn't live is room again.
+    fn compact(&mut self) {
+        let live = self.token + self.values.values().sum::<usize>() + self.payload;
+        if live <= STORE {
+            self.used = live;
+            self.step(format_args!("compact"));
         }
     }
 
@@ -108,10 +147,13 @@ impl Varied {
             match self.random.below(3) {
                 0 => script.add(number, &bytes),
                 1 => script.set(number, &[bytes]),
-                _ if script.fits(length) => script.step(format_args!("payload {}", hex(&bytes))),
-                _ => (),
+                _ => script.payload(&bytes),
             }
             self.step(&mut script, &numbers);
+            if self.random.one_in(2) {
+                script.clear(number);
+                script.compact();
+            }
         }
         script.ask(&numbers)
     }
@@ -119,16 +161,18 @@ impl Varied {
     /// A new packet, or one that is read.
     fn start(&mut self) -> Script {
         if self.random.one_in(2) {
-            return Script { line: "edit new".into(), counts: BTreeMap::new(), used: 0 };
+            return Script { line: "edit new".into(), ..Script::default() };
         }
         let mut parts = self.parts();
         parts.token.truncate(8);
         let datagram = parts.datagram();
-        let mut counts = BTreeMap::new();
-        for (number, _) in &parts.options {
-            *counts.entry(*number).or_default() += 1;
+        let mut script = Script { line: format!("edit {}", hex(&datagram)), ..Script::default() };
+        (script.token, script.payload) = (parts.token.len(), parts.payload.len());
+        for (number, value) in &parts.options {
+            *script.counts.entry(*number).or_default() += 1;
+            *script.values.entry(*number).or_default() += value.len();
         }
-        Script { line: format!("edit {}", hex(&datagram)), counts, used: 0 }
+        script
     }
 
     /// The numbers that a script is about.
@@ -145,7 +189,7 @@ impl Varied {
 
     fn step(&mut self, script: &mut Script, numbers: &[u16]) {
         let number = self.random.of(numbers);
-        match self.random.below(32) {
+        match self.random.below(34) {
             0..=11 => {
                 let value = self.value_of(number);
                 script.add(number, &value);
@@ -157,22 +201,9 @@ impl Varied {
                 script.set(number, &values);
             }
             16..=18 => script.clear(number),
-            19 if self.random.one_in(3) => {
-                script.counts.clear();
-                script.step(format_args!("clear-all"));
-            }
-            19 | 20 => {
-                let token = self.random.below(16);
-                if script.fits(token) {
-                    script.step(format_args!("token {}", hex(&self.random.bytes(token))));
-                }
-            }
-            21 | 22 => {
-                let payload = self.value(0);
-                if script.fits(payload.len()) {
-                    script.step(format_args!("payload {}", hex(&payload)));
-                }
-            }
+            19 if self.random.one_in(3) => script.clear_all(),
+            19 | 20 => script.token(&self.random.up_to(15)),
+            21 | 22 => script.payload(&self.value(0)),
             23 | 24 => {
                 let format = self.random.of(&self.formats);
                 script.content_format(format);
@@ -184,6 +215,7 @@ impl Varied {
             27 => script.step(format_args!("version {}", self.random.byte())),
             28 => script.step(format_args!("type {}", self.random.below(4))),
             29 => script.step(format_args!("id {}", self.random.wide(16))),
+            30 | 31 => script.compact(),
             _ => script.step(format_args!("class {}", class_word(self.class()))),
         }
     }

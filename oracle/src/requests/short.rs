@@ -1,6 +1,6 @@
 //! Every short input of every kind.
 
-use super::planned;
+use super::{planned, ranged};
 use crate::register::lengths;
 use crate::words::{class_word, hex, named_classes};
 use coap_lite::MessageClass;
@@ -32,6 +32,7 @@ pub fn strict(put: &mut dyn FnMut(String)) {
     registers(put);
     planned::small(put);
     frames(put);
+    ranged::small(put);
 }
 
 /// All byte strings of at most two bytes.

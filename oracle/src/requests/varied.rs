@@ -60,7 +60,7 @@ impl Varied {
         if self.made % LONG == 1 && self.made / LONG < LONG_MOST {
             return self.long_strict();
         }
-        match self.random.below(34) {
+        match self.random.below(37) {
             0..=4 => {
                 let parts = self.registered();
                 format!("register {}", self.homed(&parts))
@@ -72,6 +72,7 @@ impl Varied {
             14..=17 => self.plan(),
             18..=22 => self.frame(),
             23..=29 => self.ranged(),
+            30..=32 => self.compacted(),
             _ => self.block_strict(),
         }
     }

@@ -8,10 +8,10 @@ use Rattle.edit_scripts.proofs.played.Statement.{statement}
 use Rattle.edit_scripts.proofs.played.Tie as tie
 
 abbrev Inv-loop : tie.InvT-loop
-Inv-loop raw line edits₀ script₀ i₀ edits script i = length edits ≡ length edits₀
+Inv-loop raw line datagram edits₀ script₀ i₀ edits script i = length edits ≡ length edits₀
 
 abbrev μ-loop : tie.MeasureT-loop
-μ-loop raw line edits₀ script₀ i₀ edits script i = length line - i
+μ-loop raw line datagram edits₀ script₀ i₀ edits script i = length line - i
 
 loop-holds : tie.Need-loop-holds Inv-loop μ-loop
 loop-holds c = omega arith
