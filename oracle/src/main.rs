@@ -7,6 +7,7 @@ mod comparison;
 mod counts;
 mod edits;
 mod frames;
+mod freezing;
 mod getters;
 mod plain_answers;
 mod plans;

@@ -62,7 +62,9 @@ fn answer_request(line: &[u8]) -> Option<String> {
         | b"plan"
         | b"plan-check"
         | b"frame-out"
-        | b"frame-back" => Some(OUTSIDE.into()),
+        | b"frame-back"
+        | b"freeze"
+        | b"thaw" => Some(OUTSIDE.into()),
         _ => None,
     }
 }

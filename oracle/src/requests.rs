@@ -1,6 +1,7 @@
 //! Requests to ask. The plain ones stay where coap-lite's answer is the one that the Rattle program has to give.
 
 mod framed;
+mod frozen;
 mod listed;
 mod planned;
 mod random;
@@ -90,7 +91,7 @@ pub fn outside(out: &mut impl Write) -> io::Result<()> {
 /// The kinds of request that have a strict form; those that coap-lite has no answer to, with no plain form or over two stores;
 /// and those whose answers have counts of zeros, which coap-lite doesn't tell.
 const BOTH: [&str; 7] = ["read", "write", "write-raw", "block-new", "block-read", "block-write", "block-size"];
-const STRICT: [&str; 11] = [
+const STRICT: [&str; 13] = [
     "register",
     "properties",
     "plan",
@@ -102,6 +103,8 @@ const STRICT: [&str; 11] = [
     "get-raw",
     "edit-raw",
     "compact",
+    "freeze",
+    "thaw",
 ];
 const COUNTED: [&str; 4] = ["uint-read", "to-uint", "block-read", "edit"];
 

@@ -6,7 +6,7 @@
 use crate::raw::{Raw, MOST_OPTIONS};
 use crate::uints::Uint;
 use crate::words::{hex, kind, kind_number, number, yes, Parts, Words, DEFAULT_LIMIT, LONGEST_LINE, MOST_ROOM};
-use crate::{compaction, counts, edits, frames, getters, plain_answers, plans, register, uints};
+use crate::{compaction, counts, edits, frames, freezing, getters, plain_answers, plans, register, uints};
 use coap_lite::MessageClass;
 
 /// 01, What a packet is here: the most bytes of a datagram or a store.
@@ -55,6 +55,8 @@ fn answer_request(line: &[u8]) -> Option<Judged<String>> {
         b"plan-check" => plans::answer_check(&mut words)?,
         b"frame-out" => kept(frames::answer_out(&mut words)?),
         b"frame-back" => kept(frames::answer_back(&mut words)?),
+        b"freeze" => kept(freezing::answer_freeze(&mut words)?),
+        b"thaw" => kept(freezing::answer_thaw(&mut words)?),
         b"register" => register::check(&Raw::named(&mut words)?),
         b"register-raw" => register::check(&Raw::of(&mut words)?),
         b"get-raw" => Ok(getters::answer(&mut words)?),
@@ -168,7 +170,7 @@ fn write(limit: u64, room: u64, packet: &Raw) -> Judged<String> {
 }
 
 /// What is written, or what is refused before 12.
-fn layout(limit: u64, packet: &Raw) -> Judged<Vec<u8>> {
+pub fn layout(limit: u64, packet: &Raw) -> Judged<Vec<u8>> {
     packet.judge()?;
     let packet = packet.meaning();
     demand(packet.version == 1, 7)?;

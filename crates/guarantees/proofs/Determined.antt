@@ -17,9 +17,14 @@ use Rattle.register.proofs.Order.{one-checked}
 use Rattle.unflat.specs.Unflat.{taken}
 use Rattle.refusal.specs.Answer.{Beside}
 use Rattle.refusal.proofs.Answers.{same-given}
+use Rattle.stream.specs.declared.Step.the-variants.{Message, Refused as NoMessage}
+use Rattle.stream.specs.declared.Judged.the-variants.{Messages, Refused as NoStream}
+use Rattle.stream.specs.Answers.{Extent, Tally, stepRead, judged as streamJudged}
+use Rattle.thawing.specs.declared.Strict.the-variants.{Messages as StrictMessages, Refused as NotStrict}
+use Rattle.thawing.specs.Thawing.{Counts, strictlyIn}
 use Rattle.packet.specs.declared.Packet.{Packet}
 use Rattle.reading.specs.Reading.{decoded}
-use Rattle.guarantees.specs.Determined.{TellsApart, OneAnswer, Told, OneVerdict, OnePlan, OneConversion, OneCompaction}
+use Rattle.guarantees.specs.Determined.{TellsApart, OneAnswer, Told, OneVerdict, OnePlan, OneConversion, OneCompaction, OneThawing, OneFreezing}
 
 pub one-answer : OneAnswer
 one-answer A B f t d x y e q = t x y (e ∙ sym q)
@@ -54,6 +59,26 @@ one-decoded x y e =
     let o = one-outcome (x .outcome) (y .outcome) (ap (λ (r : Beside Packet). r .answer) e) in
     λ i. record { outcome = o i; packet = ap (λ (r : Beside Packet). r .value) e i }
 
+one-step : TellsApart stepRead
+one-step (Message a b) (Message c d) e = let k : _≡_ {A = Extent} (record { len = a; next = b }) (record { len = c; next = d }) = same-given e in rw (ap (λ (x : Extent). x .len) k, ap (λ (x : Extent). x .next) k)
+one-step (Message a b) (NoMessage y) e = cc
+one-step (NoMessage x) (Message c d) e = cc
+one-step (NoMessage x) (NoMessage y) e = let k : numberOf x ≡ numberOf y = cc in rw (distinct x y k)
+
+one-stream : TellsApart streamJudged
+one-stream (Messages a b) (Messages c d) e = let k : _≡_ {A = Tally} (record { count = a; bytes = b }) (record { count = c; bytes = d }) = same-given e in rw (ap (λ (x : Tally). x .count) k, ap (λ (x : Tally). x .bytes) k)
+one-stream (Messages a b) (NoStream y) e = cc
+one-stream (NoStream x) (Messages c d) e = cc
+one-stream (NoStream x) (NoStream y) e = let k : numberOf x ≡ numberOf y = cc in rw (distinct x y k)
+
+one-strict : TellsApart strictlyIn
+one-strict (StrictMessages a b c) (StrictMessages d f g) e =
+    let k : _≡_ {A = Counts} (record { count = a; bytes = b; chunks = c }) (record { count = d; bytes = f; chunks = g }) = same-given e in
+    rw (ap (λ (x : Counts). x .count) k, ap (λ (x : Counts). x .bytes) k, ap (λ (x : Counts). x .chunks) k)
+one-strict (StrictMessages a b c) (NotStrict y) e = cc
+one-strict (NotStrict x) (StrictMessages d f g) e = cc
+one-strict (NotStrict x) (NotStrict y) e = let k : numberOf x ≡ numberOf y = cc in rw (distinct x y k)
+
 pub told : Told
 told =
     record {
@@ -79,6 +104,9 @@ told =
       observe-values = one-observe;
       checks = one-checked;
       flat-packets = one-taken;
+      messages = one-step;
+      streams = one-stream;
+      strict-streams = one-strict;
     }
 
 pub one-verdict : OneVerdict
@@ -86,6 +114,13 @@ one-verdict bytes held values r s p q = one-outcome r s (p ∙ sym q)
 
 pub one-plan : OnePlan
 one-plan bytes held old r s new other p q = (one-written r s (p .answer ∙ sym (q .answer)), p .list ∙ sym (q .list))
+
+pub one-thawing : OneThawing
+one-thawing form s oldList oldOut r q list alsoList out alsoOut x y =
+    (one-written r q (x .answer ∙ sym (y .answer)), x .list ∙ sym (y .list), x .output ∙ sym (y .output))
+
+pub one-freezing : OneFreezing
+one-freezing form peer p s old start r q new also x y = (one-written r q (x .answer ∙ sym (y .answer)), x .output ∙ sym (y .output))
 
 pub one-compaction : OneCompaction
 one-compaction p s second r q edits also buffer other c x =

@@ -20,8 +20,14 @@ use Rattle.judging.specs.Judge.{lengthsOf}
 use Rattle.compacting.specs.Compacting.{liveBytes, compacting, packetBeside}
 use Rattle.reading.specs.Reading.{reading}
 use Rattle.register.proofs.Order.{none-kept}
+use Rattle.stream.specs.Messages.{messageAt, thawed}
+use Rattle.stream.specs.Stream.{messageOf, datagramsOf}
+use Rattle.stream.specs.Answers.{Extent, stepRead}
+use Rattle.thawing.specs.Message.{nextIn, foundBytes}
+use Rattle.thawing.specs.Thawing.{thawing, entries, messagesIn}
+use Rattle.freezing.specs.Freezing.{freezing}
 use Rattle.writing.specs.Writing.{bytesWritten}
-use Rattle.guarantees.specs.Refusals.{Numbered, OutputKept, DoneOr, NoPacketRead, PacketKept, StoreKept, HeaderKept, NothingKept, ListKept, FrameOutputKept, CompactionKept}
+use Rattle.guarantees.specs.Refusals.{Numbered, OutputKept, DoneOr, NoPacketRead, PacketKept, StoreKept, HeaderKept, NothingKept, ListKept, FrameOutputKept, CompactionKept, ThawingKept, StepKept, StreamKept}
 use Rattle.planning.specs.Planner.{values, planning}
 use Rattle.framing.specs.Framing.{bytesOf}
 
@@ -59,6 +65,24 @@ nothing-kept = none-kept
 pub list-kept : ListKept
 list-kept bytes held old r new q e is =
     output-kept (planning (length old) bytes held) 0 (values bytes held) old r new (q .answer) (q .list) e is
+
+pub thawing-kept : ThawingKept
+thawing-kept form s oldList oldOut r list out q e is =
+    let a : Answer ℕ = thawing form (length oldList) (length oldOut) s in
+    let l = messagesIn (thawed form s) in
+    (output-kept a 0 (entries form 0 0 l) oldList r list (q .answer) (q .list) e is, output-kept a 0 (datagramsOf l) oldOut r out (q .answer) (q .output) e is)
+
+step-by : (a : Answer Extent) (at : ℕ) (bytes old new : List ℕ) (k : ℕ) → a ≡ refused k → new ≡ after a at bytes old → new ≡ old
+step-by (given x) at bytes old new k e p = not-refused e
+step-by (refused j) at bytes old new k e p = p
+
+pub step-kept : StepKept
+step-kept form s at old to r new q e is =
+    step-by (nextIn form s at (length old) to) to (foundBytes (messageAt form s at)) old new (numberOf e) (sym (q .answer) ∙ ap stepRead is) (q .output)
+
+pub stream-kept : StreamKept
+stream-kept form peer p s old start r new q e is =
+    output-kept (freezing form (length old) start peer s p) start (messageOf form (record { peer = peer; datagram = bytesWritten true s p })) old r new (q .answer) (q .output) e is
 
 -- What stands beside a refused compaction is the packet as it came.
 packet-left : (a : Answer ℕ) (p q : Packet) (r : Written) → written r ≡ a → q ≡ packetBeside a p → (e : Refusal) → r ≡ Refused e → q ≡ p

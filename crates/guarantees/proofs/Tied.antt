@@ -31,6 +31,9 @@ use Rattle.register.specs.Check.{Checks}
 use Rattle.framing.specs.Framing.{ToFrame, FromFrame}
 use Rattle.plan_checking.specs.Plan.{Checks as ChecksPlan}
 use Rattle.planning.specs.Planner.{Plans}
+use Rattle.thawing.specs.Message.{NextMessage}
+use Rattle.thawing.specs.Thawing.{Strictly, Thaws}
+use Rattle.freezing.specs.Freezing.{Freezes}
 use Rattle.framing.specs.Framing.{Converts}
 use Rattle.compacting.specs.Compacting.{Compacts}
 use Rattle.guarantees.specs.Homes.{HandsBack}
@@ -69,6 +72,10 @@ use Rattle.framing.proofs.to_frame.Reads as FrameOut
 use Rattle.framing.proofs.from_frame.Reads as FrameBack
 use Rattle.plan_checking.proofs.check.Reads as CheckPlan
 use Rattle.planning.proofs.plan.Reads as MakePlan
+use Rattle.thawing.proofs.next_message.Reads as TakeMessage
+use Rattle.thawing.proofs.judge_strictly.Reads as JudgeStream
+use Rattle.thawing.proofs.thaw.Reads as ThawStream
+use Rattle.freezing.proofs.freeze.Reads as FreezePacket
 use Rattle.compacting.proofs.compact.Reads as Compact
 use Rattle.header.proofs.Header.set_code.Reads as SetCode
 use Rattle.option_value.proofs.OptionValueU8.try_from.Reads as FromU8
@@ -213,6 +220,19 @@ check-plan k a r x h = h
 
 plan : (k : _) (a : _) (r : _) (x : _) → MakePlan.Post k a r x → Plans (a .0) (now (a .1 .0)) (now (a .1 .1 .0)) r (now (x .1 .1 .0))
 plan k a r x h = h
+
+-- Freeze streams.
+next-message : (k : _) (a : _) (r : _) (x : _) → TakeMessage.Post k a r x → NextMessage (a .0) (now (a .1 .0)) (a .1 .1 .0) (now (a .1 .1 .1 .0)) (a .1 .1 .1 .1 .0) r (now (x .1 .1 .1 .0))
+next-message k a r x h = h
+
+judge-strictly : (k : _) (a : _) (r : _) (x : _) → JudgeStream.Post k a r x → Strictly (a .0) (a .1 .0) (now (a .1 .1 .0)) r
+judge-strictly k a r x h = h
+
+thaw : (k : _) (a : _) (r : _) (x : _) → ThawStream.Post k a r x → Thaws (a .0) (now (a .1 .0)) (now (a .1 .1 .0)) (now (a .1 .1 .1 .0)) r (now (x .1 .1 .0)) (now (x .1 .1 .1 .0))
+thaw k a r x h = h
+
+freeze : (k : _) (a : _) (r : _) (x : _) → FreezePacket.Post k a r x → Freezes (a .0) (a .1 .0) (a .1 .1 .0) (stores (now (a .1 .1 .1 .0)) (now (a .1 .1 .1 .1 .0))) (now (a .1 .1 .1 .1 .1 .0)) (a .1 .1 .1 .1 .1 .1 .0) r (now (x .1 .1 .1 .1 .1 .0))
+freeze k a r x h = h
 
 -- Compaction.
 compact : (k : _) (a : _) (r : _) (x : _) → Compact.Post k a r x → Compacts (a .0) (stores (now (a .1 .0)) (now (a .1 .1 .0))) (now (a .1 .1 .1 .0)) r (now (x .1 .1 .0)) (now (x .1 .1 .1 .0))

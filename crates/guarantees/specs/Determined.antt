@@ -24,6 +24,10 @@ use Rattle.plan_checking.specs.Plan.{Checks}
 use Rattle.planning.specs.Planner.{Plans}
 use Rattle.packet.specs.Packet.{Stores}
 use Rattle.packet.specs.declared.Packet.{Packet}
+use Rattle.stream.specs.declared.Form.{Form}
+use Rattle.stream.specs.Answers.{stepRead, judged as streamJudged}
+use Rattle.thawing.specs.Thawing.{strictlyIn, Thaws}
+use Rattle.freezing.specs.Freezing.{Freezes}
 use Rattle.compacting.specs.Compacting.{Compacts}
 use Rattle.compacting.specs.declared.Compacted.{Compacted}
 
@@ -65,6 +69,9 @@ pub record Told : Type 0 where
   pub observe-values : TellsApart observed
   pub checks : TellsApart checked
   pub flat-packets : TellsApart taken
+  pub messages : TellsApart stepRead
+  pub streams : TellsApart streamJudged
+  pub strict-streams : TellsApart strictlyIn
 
 -- So a plan has one verdict; and an image, with what is held of it, one plan in one list.
 abbrev pub OneVerdict : Type 0
@@ -74,6 +81,18 @@ abbrev pub OnePlan : Type 0
 OnePlan =
     (bytes : ℕ) (held old : List ℕ) (r s : Written) (new other : List ℕ)
     → Plans bytes held old r new → Plans bytes held old s other → (r ≡ s) × (new ≡ other)
+
+-- A stream that is thawed has one answer, one list and one output; a packet that is frozen one answer and one stream.
+abbrev pub OneThawing : Type 0
+OneThawing =
+    (form : Form) (s oldList oldOut : List ℕ) (r q : Written) (list alsoList out alsoOut : List ℕ)
+    → Thaws form s oldList oldOut r list out → Thaws form s oldList oldOut q alsoList alsoOut
+    → (r ≡ q) × (list ≡ alsoList) × (out ≡ alsoOut)
+
+abbrev pub OneFreezing : Type 0
+OneFreezing =
+    (form : Form) (peer : List ℕ) (p : Packet) (s : Stores) (old : List ℕ) (start : ℕ) (r q : Written) (new also : List ℕ)
+    → Freezes form peer p s old start r new → Freezes form peer p s old start q also → (r ≡ q) × (new ≡ also)
 
 -- A compaction has one answer, and leaves one edit store and one second buffer.
 abbrev pub OneCompaction : Type 0

@@ -32,6 +32,12 @@ use Rattle.register.specs.Check.{Checks}
 use Rattle.register.specs.declared.Checked.{Checked}
 use Rattle.register.specs.declared.Verdict.the-variants.{Passes}
 use Rattle.planning.specs.Planner.{Plans}
+use Rattle.stream.specs.declared.Form.{Form}
+use Rattle.stream.specs.declared.Step.{Step}
+use Rattle.stream.specs.declared.Step.the-variants.{Refused as NoMessage}
+use Rattle.thawing.specs.Message.{NextMessage}
+use Rattle.thawing.specs.Thawing.{Thaws}
+use Rattle.freezing.specs.Freezing.{Freezes}
 use Rattle.compacting.specs.Compacting.{Compacts}
 use Rattle.compacting.specs.declared.Compacted.{Compacted}
 
@@ -81,6 +87,23 @@ abbrev pub ListKept : Type 0
 ListKept =
     (bytes : ℕ) (held old : List ℕ) (r : Written) (new : List ℕ) → Plans bytes held old r new
     → (e : Refusal) → r ≡ Refused e → new ≡ old
+
+-- A refused thawing leaves list and output as they were; a step that is refused leaves the output.
+abbrev pub ThawingKept : Type 0
+ThawingKept =
+    (form : Form) (s oldList oldOut : List ℕ) (r : Written) (list out : List ℕ) → Thaws form s oldList oldOut r list out
+    → (e : Refusal) → r ≡ Refused e → (list ≡ oldList) × (out ≡ oldOut)
+
+abbrev pub StepKept : Type 0
+StepKept =
+    (form : Form) (s : List ℕ) (at : ℕ) (old : List ℕ) (to : ℕ) (r : Step) (new : List ℕ) → NextMessage form s at old to r new
+    → (e : Refusal) → r ≡ NoMessage e → new ≡ old
+
+-- A refused freezing leaves the stream as it was.
+abbrev pub StreamKept : Type 0
+StreamKept =
+    (form : Form) (peer : List ℕ) (p : Packet) (s : Stores) (old : List ℕ) (start : ℕ) (r : Written) (new : List ℕ)
+    → Freezes form peer p s old start r new → (e : Refusal) → r ≡ Refused e → new ≡ old
 
 -- A refused compaction hands back the packet as it came, and leaves edit store and second buffer as they were.
 abbrev pub CompactionKept : Type 0

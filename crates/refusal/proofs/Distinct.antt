@@ -12,7 +12,7 @@ use Rattle.refusal.specs.declared.Outcome.{Outcome}
 use Rattle.refusal.specs.declared.Outcome.the-variants.{Done, Refused as Not}
 use Rattle.refusal.specs.Number.{numberOf, refusals, numbers}
 use Rattle.refusal.specs.declared.Refusal.{Refusal}
-use Rattle.refusal.specs.declared.Refusal.the-variants.{InvalidHeader, InvalidTokenLength, InvalidOptionDelta, InvalidOptionLength, InvalidPacketLength, TooManyOptions, WrongVersion, EmptyCarries, MarkerAlone, TooLong, BadRecord, NoRoom, BadUint, BadBlockSize, BadText, BadOption, BlockNumber, BadFrame, BadPlan}
+use Rattle.refusal.specs.declared.Refusal.the-variants.{InvalidHeader, InvalidTokenLength, InvalidOptionDelta, InvalidOptionLength, InvalidPacketLength, TooManyOptions, WrongVersion, EmptyCarries, MarkerAlone, TooLong, BadRecord, NoRoom, BadUint, BadBlockSize, BadText, BadOption, BlockNumber, BadFreeze, BadFrame, BadPlan}
 
 -- The first of these refusals that has a number.
 among : List Refusal → ℕ → Refusal
@@ -39,6 +39,7 @@ known BadBlockSize = (refl, tt)
 known BadText = (refl, tt)
 known BadOption = (refl, tt)
 known BlockNumber = (refl, tt)
+known BadFreeze = (refl, tt)
 known BadFrame = (refl, tt)
 known BadPlan = (refl, tt)
 

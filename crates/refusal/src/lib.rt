@@ -22,6 +22,7 @@ pub enum Refusal {
     BadText,
     BadOption,
     BlockNumber,
+    BadFreeze,
     BadFrame,
     BadPlan,
 }
@@ -49,6 +50,7 @@ impl Refusal {
             Refusal::BadText => 15,
             Refusal::BadOption => 16,
             Refusal::BlockNumber => 17,
+            Refusal::BadFreeze => 19,
             Refusal::BadFrame => 20,
             Refusal::BadPlan => 22,
         }

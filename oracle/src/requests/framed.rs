@@ -46,7 +46,7 @@ impl Varied {
     }
 
     /// The layout of a message that strict reading accepts, most often.
-    fn well_formed(&mut self) -> Vec<u8> {
+    pub fn well_formed(&mut self) -> Vec<u8> {
         let mut parts = self.parts();
         parts.version = 1;
         parts.token.truncate(8);

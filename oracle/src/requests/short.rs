@@ -1,6 +1,6 @@
 //! Every short input of every kind.
 
-use super::{planned, ranged};
+use super::{frozen, planned, ranged};
 use crate::register::lengths;
 use crate::words::{class_word, hex, named_classes};
 use coap_lite::MessageClass;
@@ -33,6 +33,7 @@ pub fn strict(put: &mut dyn FnMut(String)) {
     planned::small(put);
     frames(put);
     ranged::small(put);
+    frozen::small(put);
 }
 
 /// All byte strings of at most two bytes.
@@ -164,7 +165,7 @@ fn words_over(alphabet: &[u8], most: usize, put: &mut dyn FnMut(String)) {
 }
 
 /// All strings of up to so many of these bytes.
-fn strings_over(alphabet: &[u8], most: usize, take: &mut dyn FnMut(&[u8])) {
+pub fn strings_over(alphabet: &[u8], most: usize, take: &mut dyn FnMut(&[u8])) {
     let mut strings = vec![Vec::new()];
     for length in 0..=most {
         strings.iter().for_each(|string| take(string));

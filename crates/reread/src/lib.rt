@@ -1,0 +1,128 @@
+// Standard input for a program that reads it twice, first to judge it and then to work on it: the file itself, or a copy of it
+// where it is a pipe or a terminal. The copy goes to a file in /tmp that has no name by the time it is read.
+use libc::SEEK_CUR;
+use libc::SEEK_SET;
+use libc::STDIN_FILENO;
+ghost use Prim.Native.Nat.{_+_};
+
+// A descriptor and the position that its bytes begin at. It is below 0 where there is none, and standard error says why.
+pub struct Input {
+    pub fd: i32,
+    pub start: i64,
+}
+
+// Standard input, at any size.
+pub fn standard() -> Input {
+    let start = libc::lseek(STDIN_FILENO, 0, SEEK_CUR);
+    if start < 0 {
+        return Input {
+            fd: copied(),
+            start: 0,
+        };
+    }
+    Input {
+        fd: STDIN_FILENO,
+        start,
+    }
+}
+
+// Goes back to where the input begins.
+pub fn rewound(input: Input) -> bool {
+    if libc::lseek(input.fd, input.start, SEEK_SET) < 0 {
+        os::fail(b"going back in the input");
+        return false;
+    }
+    true
+}
+
+// A copy of standard input, as a descriptor.
+fn copied() -> i32 {
+    let mut name = *b"/tmp/rickwinter-XXXXXX";
+    let fd = os::create_temp(&mut name);
+    if fd < 0 {
+        os::fail(b"making a file in /tmp for a copy of the input");
+        return fd;
+    }
+    os::unlink(&name);
+    if copy_all(fd) {
+        return fd;
+    }
+    -1
+}
+
+// Copies standard input to its end. The turns count down from a number that no input reaches.
+fn copy_all(fd: i32) -> bool {
+    let mut piece = io::large_buffer();
+    let mut left: u64 = 1000000000000000;
+    while 0 < left {
+        let got = libc::read(STDIN_FILENO, &mut piece);
+        if got < 0 {
+            os::fail(b"reading the input");
+            return false;
+        }
+        let count = io::count(got, &piece);
+        if count == 0 {
+            return true;
+        }
+        if !io::write_all(fd, &piece[..count]) {
+            os::fail(b"writing a copy of the input in /tmp");
+            return false;
+        }
+        left = left - 1;
+    }
+    true
+}
+
+// How many bytes of a window are filled, whether the input ends with them, and whether reading failed.
+pub struct Filled {
+    pub count: usize,
+    pub ended: bool,
+    pub failed: bool,
+}
+
+// Reads until the window is full behind what waits at its start, or the input ends.
+pub fn fill(fd: i32, window: &mut [u8], waiting: usize) -> Filled {
+    let mut count = waiting;
+    while count < window.len() {
+        let got = libc::read(fd, &mut window[count..]);
+        if got < 0 {
+            os::fail(b"reading the input");
+            return Filled {
+                count,
+                ended: true,
+                failed: true,
+            };
+        }
+        let more = io::count(got, &window[count..]);
+        if more == 0 {
+            return Filled {
+                count,
+                ended: true,
+                failed: false,
+            };
+        }
+        count = count + more;
+    }
+    Filled {
+        count,
+        ended: false,
+        failed: false,
+    }
+}
+
+// Moves what stands between two positions to the front, and answers how much that is.
+pub fn moved_to_front(window: &mut [u8], start: usize, end: usize) -> usize {
+    if end < start {
+        return 0;
+    }
+    if window.len() < end {
+        return 0;
+    }
+    let count = end - start;
+    let mut i = 0;
+    while i < count {
+        window[i] = window[start + i];
+        i = i + 1;
+    }
+    count
+}

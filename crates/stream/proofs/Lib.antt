@@ -1,0 +1,9 @@
+pub mod Sound
+pub mod Complete
+pub mod Exact
+pub mod Heads
+pub mod From
+pub mod Walk
+pub mod Sizes
+pub mod Chunks
+pub mod Left

@@ -1,0 +1,3 @@
+pub mod Stream
+pub mod Messages
+pub mod Answers

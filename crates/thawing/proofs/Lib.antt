@@ -1,0 +1,6 @@
+pub mod Copy
+pub mod Message
+pub mod Accepting
+pub mod Judging
+pub mod Listing
+pub mod Thawed
