@@ -1,35 +1,64 @@
-//! Streams of frozen messages, written and read: request [1] of "02", the list of change requests.
+//! Streams of frozen messages, written, read and converted: requests [1] and [10] of "02", the list of change requests.
 
 use crate::plans::listed;
 use crate::raw::Raw;
 use crate::strict_answers::{demand, layout, read, written, Judged};
 use crate::words::{hex, Words, MOST_ROOM, MOST_VALUES};
 
-/// Kinds of records.
+/// Kinds of records in both forms.
 const PEER: u8 = 1;
-const CHUNK: u8 = 2;
 const END: u8 = 3;
 /// 16 address bytes and 2 port bytes.
 const PEER_BYTES: usize = 18;
-/// The bytes of a chunk, used or not.
-const CHUNK_BYTES: usize = 30;
 /// A message's bytes are a strict datagram of 4 to so many.
 const MOST_FROZEN: usize = 1_280;
 
-/// `freeze old ROOM START PEER PACKET`: the strict writer's refusals, then 12 of the stream after the start.
+/// The kinds of chunks that a stream has.
+#[derive(Clone, Copy, PartialEq)]
+pub enum Form {
+    Old,
+    New,
+}
+
+impl Form {
+    fn of(words: &mut Words) -> Option<Form> {
+        match words.word()? {
+            b"old" => Some(Form::Old),
+            b"new" => Some(Form::New),
+            _ => None,
+        }
+    }
+
+    fn other(self) -> Form {
+        match self {
+            Form::Old => Form::New,
+            Form::New => Form::Old,
+        }
+    }
+
+    /// How many bytes of a message a full chunk has.
+    fn full(self) -> usize {
+        match self {
+            Form::Old => 30,
+            Form::New => 64,
+        }
+    }
+}
+
+/// `freeze FORM ROOM START PEER PACKET`: the strict writer's refusals, then 12 of the stream after the start.
 pub fn answer_freeze(words: &mut Words) -> Option<Judged<String>> {
-    old(words)?;
+    let form = Form::of(words)?;
     let (room, start) = (words.number(MOST_ROOM)?, words.number(u64::MAX)?);
     let peer = words.bytes().filter(|peer| peer.len() == PEER_BYTES)?;
     let datagram = layout(MOST_FROZEN as u64, &Raw::named(words)?);
-    Some(datagram.and_then(|datagram| written(&frozen(&peer, &datagram), room.checked_sub(start).ok_or(12)?)))
+    Some(datagram.and_then(|datagram| written(&frozen(form, &peer, &datagram), room.checked_sub(start).ok_or(12)?)))
 }
 
-/// `thaw old PLACES ROOM HEX`: 19 of the whole stream, the first bad datagram's own refusal, then 12 of either room.
+/// `thaw FORM PLACES ROOM HEX`: 19 of the whole stream, the first bad datagram's own refusal, then 12 of either room.
 pub fn answer_thaw(words: &mut Words) -> Option<Judged<String>> {
-    old(words)?;
+    let form = Form::of(words)?;
     let (places, room) = (words.number(MOST_VALUES)?, words.number(MOST_ROOM)?);
-    let messages = thawed(&words.bytes()?);
+    let messages = thawed(form, &words.bytes()?);
     Some(messages.and_then(|messages| {
         let bytes: Vec<u8> = messages.iter().flat_map(|message| message.datagram.clone()).collect();
         demand(3 * messages.len() as u64 <= places && bytes.len() as u64 <= room, 12)?;
@@ -37,24 +66,33 @@ pub fn answer_thaw(words: &mut Words) -> Option<Judged<String>> {
     }))
 }
 
-/// The form of a stream.
-fn old(words: &mut Words) -> Option<()> {
-    (words.word()? == b"old").then_some(())
+/// `convert FORM ROOM HEX`: the refusals of thawing the stream, then 12. What is written is the same list in the other form.
+pub fn answer_convert(words: &mut Words) -> Option<Judged<String>> {
+    let form = Form::of(words)?;
+    let (room, stream) = (words.number(MOST_ROOM)?, words.bytes()?);
+    Some(thawed(form, &stream).and_then(|messages| {
+        let message = |message: &Message| {
+            let peer = &stream[message.peer..message.peer + PEER_BYTES];
+            frozen(form.other(), peer, &message.datagram)
+        };
+        written(&messages.iter().flat_map(message).collect::<Vec<u8>>(), room)
+    }))
 }
 
-/// A message is one kind 1, chunks, then one kind 3.
-pub fn frozen(peer: &[u8], datagram: &[u8]) -> Vec<u8> {
-    [&[PEER], peer, &chunks(datagram), &[END]].concat()
+/// A message is one kind 1, chunks, all of them full but perhaps the last, then one kind 3.
+pub fn frozen(form: Form, peer: &[u8], datagram: &[u8]) -> Vec<u8> {
+    let chunks: Vec<u8> = datagram.chunks(form.full()).flat_map(|bytes| chunk(form, bytes)).collect();
+    [&[PEER], peer, &chunks, &[END]].concat()
 }
 
-/// Kind 2: a count and 30 bytes, unused ones zero; all with count 30 but perhaps the last.
-fn chunks(datagram: &[u8]) -> Vec<u8> {
-    let chunk = |bytes: &[u8]| {
-        let mut record = [&[CHUNK, bytes.len() as u8], bytes].concat();
-        record.resize(2 + CHUNK_BYTES, 0);
-        record
-    };
-    datagram.chunks(CHUNK_BYTES).flat_map(chunk).collect()
+/// Old: kind 2, a count and 30 bytes, unused ones zero. New: kind 4 and 64 bytes, or 128 + the count and fewer.
+fn chunk(form: Form, bytes: &[u8]) -> Vec<u8> {
+    let count = bytes.len() as u8;
+    match form {
+        Form::Old => [&[2, count], bytes, &vec![0; 30 - bytes.len()]].concat(),
+        Form::New if count == 64 => [&[4], bytes].concat(),
+        Form::New => [&[128 + count], bytes].concat(),
+    }
 }
 
 /// A message, and where its peer starts in the stream.
@@ -76,8 +114,8 @@ fn places_of(messages: &[Message]) -> Vec<u64> {
 }
 
 /// The messages of a stream, all of which strict reading accepts.
-fn thawed(stream: &[u8]) -> Judged<Vec<Message>> {
-    let messages = messages(&records(stream)?)?;
+fn thawed(form: Form, stream: &[u8]) -> Judged<Vec<Message>> {
+    let messages = messages(form, &records(form, stream)?)?;
     messages.iter().try_for_each(|message| read(&message.datagram).map(drop))?;
     Ok(messages)
 }
@@ -90,22 +128,26 @@ enum Record<'a> {
     End,
 }
 
-/// One byte of kind and a body whose length the kind fixes, up to the end of the stream; 19 for any other.
-fn records(stream: &[u8]) -> Judged<Vec<Record<'_>>> {
+/// One byte of kind and a body whose length the kind fixes, up to the end of the stream; 19 for any other, one of the other
+/// form too.
+fn records(form: Form, stream: &[u8]) -> Judged<Vec<Record<'_>>> {
     let mut records = Vec::new();
     let mut at = 0;
     while let Some(&kind) = stream.get(at) {
-        let length = match kind {
-            PEER => PEER_BYTES,
-            CHUNK => 1 + CHUNK_BYTES,
-            END => 0,
+        let length = match (form, kind) {
+            (_, PEER) => PEER_BYTES,
+            (_, END) => 0,
+            (Form::Old, 2) => 1 + 30,
+            (Form::New, 4) => 64,
+            (Form::New, 129..=191) => usize::from(kind) - 128,
             _ => return Err(19),
         };
         let body = stream.get(at + 1..at + 1 + length).ok_or(19)?;
         records.push(match kind {
             PEER => Record::Peer(at + 1),
-            CHUNK => Record::Chunk(counted(body)?),
-            _ => Record::End,
+            END => Record::End,
+            2 => Record::Chunk(counted(body)?),
+            _ => Record::Chunk(body),
         });
         at += 1 + length;
     }
@@ -115,14 +157,14 @@ fn records(stream: &[u8]) -> Judged<Vec<Record<'_>>> {
 /// A count 1..30, and unused bytes that are zero.
 fn counted(body: &[u8]) -> Judged<&[u8]> {
     let count = usize::from(body[0]);
-    demand((1..=CHUNK_BYTES).contains(&count), 19)?;
+    demand((1..=30).contains(&count), 19)?;
     let (used, unused) = body[1..].split_at(count);
     demand(unused.iter().all(|&byte| byte == 0), 19)?;
     Ok(used)
 }
 
 /// Messages one after the other; 19 for any order or message length outside the rule.
-fn messages(records: &[Record]) -> Judged<Vec<Message>> {
+fn messages(form: Form, records: &[Record]) -> Judged<Vec<Message>> {
     let mut messages = Vec::new();
     let mut rest = records;
     while let Some((first, more)) = rest.split_first() {
@@ -130,20 +172,20 @@ fn messages(records: &[Record]) -> Judged<Vec<Message>> {
             return Err(19);
         };
         let end = more.iter().position(|&record| record == Record::End).ok_or(19)?;
-        messages.push(Message { peer, datagram: joined(&more[..end])? });
+        messages.push(Message { peer, datagram: joined(form, &more[..end])? });
         rest = &more[end + 1..];
     }
     Ok(messages)
 }
 
 /// What stands between peer and end: chunks, all of them full but perhaps the last, of 4 to 1,280 bytes together.
-fn joined(records: &[Record]) -> Judged<Vec<u8>> {
+fn joined(form: Form, records: &[Record]) -> Judged<Vec<u8>> {
     let mut datagram = Vec::new();
     for (index, record) in records.iter().enumerate() {
         let Record::Chunk(bytes) = *record else {
             return Err(19);
         };
-        demand(bytes.len() == CHUNK_BYTES || index == records.len() - 1, 19)?;
+        demand(bytes.len() == form.full() || index == records.len() - 1, 19)?;
         datagram.extend(bytes);
     }
     demand((4..=MOST_FROZEN).contains(&datagram.len()), 19)?;

@@ -64,7 +64,8 @@ fn answer_request(line: &[u8]) -> Option<String> {
         | b"frame-out"
         | b"frame-back"
         | b"freeze"
-        | b"thaw" => Some(OUTSIDE.into()),
+        | b"thaw"
+        | b"convert" => Some(OUTSIDE.into()),
         _ => None,
     }
 }

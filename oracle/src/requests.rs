@@ -91,7 +91,7 @@ pub fn outside(out: &mut impl Write) -> io::Result<()> {
 /// The kinds of request that have a strict form; those that coap-lite has no answer to, with no plain form or over two stores;
 /// and those whose answers have counts of zeros, which coap-lite doesn't tell.
 const BOTH: [&str; 7] = ["read", "write", "write-raw", "block-new", "block-read", "block-write", "block-size"];
-const STRICT: [&str; 13] = [
+const STRICT: [&str; 14] = [
     "register",
     "properties",
     "plan",
@@ -105,6 +105,7 @@ const STRICT: [&str; 13] = [
     "compact",
     "freeze",
     "thaw",
+    "convert",
 ];
 const COUNTED: [&str; 4] = ["uint-read", "to-uint", "block-read", "edit"];
 

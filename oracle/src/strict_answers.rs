@@ -57,6 +57,7 @@ fn answer_request(line: &[u8]) -> Option<Judged<String>> {
         b"frame-back" => kept(frames::answer_back(&mut words)?),
         b"freeze" => kept(freezing::answer_freeze(&mut words)?),
         b"thaw" => kept(freezing::answer_thaw(&mut words)?),
+        b"convert" => kept(freezing::answer_convert(&mut words)?),
         b"register" => register::check(&Raw::named(&mut words)?),
         b"register-raw" => register::check(&Raw::of(&mut words)?),
         b"get-raw" => Ok(getters::answer(&mut words)?),

@@ -35,6 +35,7 @@ use Rattle.thawing.specs.Message.{NextMessage}
 use Rattle.thawing.specs.Thawing.{Strictly, Thaws}
 use Rattle.freezing.specs.Freezing.{Freezes}
 use Rattle.framing.specs.Framing.{Converts}
+use Rattle.converting.specs.Converting.{converted}
 use Rattle.compacting.specs.Compacting.{Compacts}
 use Rattle.guarantees.specs.Homes.{HandsBack}
 use Rattle.packet.proofs.Range.part.Reads as PartOf
@@ -76,6 +77,7 @@ use Rattle.thawing.proofs.next_message.Reads as TakeMessage
 use Rattle.thawing.proofs.judge_strictly.Reads as JudgeStream
 use Rattle.thawing.proofs.thaw.Reads as ThawStream
 use Rattle.freezing.proofs.freeze.Reads as FreezePacket
+use Rattle.converting.proofs.convert.Reads as ConvertStream
 use Rattle.compacting.proofs.compact.Reads as Compact
 use Rattle.header.proofs.Header.set_code.Reads as SetCode
 use Rattle.option_value.proofs.OptionValueU8.try_from.Reads as FromU8
@@ -233,6 +235,10 @@ thaw k a r x h = h
 
 freeze : (k : _) (a : _) (r : _) (x : _) → FreezePacket.Post k a r x → Freezes (a .0) (a .1 .0) (a .1 .1 .0) (stores (now (a .1 .1 .1 .0)) (now (a .1 .1 .1 .1 .0))) (now (a .1 .1 .1 .1 .1 .0)) (a .1 .1 .1 .1 .1 .1 .0) r (now (x .1 .1 .1 .1 .1 .0))
 freeze k a r x h = h
+
+-- Conversions of streams.
+convert : (k : _) (a : _) (r : _) (x : _) → ConvertStream.Post k a r x → Converts (converted (a .0) (now (a .1 .0))) (now (a .1 .1 .0)) r (now (x .1 .1 .0))
+convert k a r x h = h
 
 -- Compaction.
 compact : (k : _) (a : _) (r : _) (x : _) → Compact.Post k a r x → Compacts (a .0) (stores (now (a .1 .0)) (now (a .1 .1 .0))) (now (a .1 .1 .1 .0)) r (now (x .1 .1 .0)) (now (x .1 .1 .1 .0))

@@ -1,16 +1,20 @@
-//! Messages to be frozen, and streams to be thawed: good ones, damaged ones, and all small ones.
+//! Messages to be frozen, and streams to be thawed or converted: good ones, damaged ones, and all small ones.
 
 use super::short::strings_over;
 use super::varied::Varied;
-use crate::freezing::frozen;
+use crate::freezing::{frozen, Form};
 use crate::words::{hex, MOST_ROOM, MOST_VALUES};
 
 /// Sizes of a message beside which the count of its chunks changes, or it is too long; few are so long.
-const SIZES: [usize; 3] = [4, 30, 60];
-const LONG_SIZES: [usize; 3] = [1_152, 1_260, 1_280];
+const SIZES: [usize; 6] = [4, 30, 60, 63, 65, 128];
+const LONG_SIZES: [usize; 4] = [1_152, 1_216, 1_260, 1_280];
 
 /// Bytes that are kinds, counts, or neither.
-const TELLING: [u8; 14] = [0x00, 0x01, 0x02, 0x03, 0x04, 0x08, 0x1d, 0x1e, 0x1f, 0x40, 0x80, 0x81, 0xbf, 0xff];
+const TELLING: [u8; 16] =
+    [0x00, 0x01, 0x02, 0x03, 0x04, 0x08, 0x1d, 0x1e, 0x1f, 0x40, 0x80, 0x81, 0x84, 0xbf, 0xc0, 0xff];
+
+/// The word of a form, and the form.
+const FORMS: [(&str, Form); 2] = [("old", Form::Old), ("new", Form::New)];
 
 impl Varied {
     pub fn freeze(&mut self) -> String {
@@ -21,17 +25,18 @@ impl Varied {
         }
         if self.random.one_in(3) {
             parts.payload.clear();
-            let sizes = if self.random.one_in(4) { &LONG_SIZES } else { &SIZES };
+            let sizes = if self.random.one_in(4) { &LONG_SIZES[..] } else { &SIZES };
             let missing = self.random.near(sizes).saturating_sub(parts.datagram().len() + 1);
             parts.payload = self.random.bytes(missing);
         }
-        let length = frozen(&[0; 18], &parts.datagram()).len();
+        let (word, form) = self.random.of(&FORMS);
+        let length = frozen(form, &[0; 18], &parts.datagram()).len();
         if self.random.one_in(6) {
             self.spoil(&mut parts);
         }
         let (room, start) = self.stream_room(length);
         let peer = hex(&self.random.bytes(18));
-        format!("freeze old {room} {start} {peer} {}", self.homed(&parts))
+        format!("freeze {word} {room} {start} {peer} {}", self.homed(&parts))
     }
 
     /// A stream and a start in it: as much as so many bytes take, about as much, or more than there is.
@@ -49,15 +54,32 @@ impl Varied {
     pub fn thaw(&mut self) -> String {
         let datagrams = self.datagrams();
         let (places, room) = self.thaw_rooms(&datagrams);
+        let (word, form) = self.random.of(&FORMS);
+        format!("thaw {word} {places} {room} {}", hex(&self.stream_of(form, &datagrams)))
+    }
+
+    pub fn convert(&mut self) -> String {
+        let datagrams = self.datagrams();
+        let (word, form) = self.random.of(&FORMS);
+        let stream = self.stream_of(form, &datagrams);
+        let other = if form == Form::Old { Form::New } else { Form::Old };
+        let converted = datagrams.iter().map(|datagram| frozen(other, &[0; 18], datagram).len()).sum();
+        let room = if self.random.one_in(3) { self.random.near(&[converted]) as u64 } else { MOST_ROOM };
+        format!("convert {word} {room} {}", hex(&stream))
+    }
+
+    /// A stream of a form, now and then with a message of the other, and damaged half of the time.
+    fn stream_of(&mut self, form: Form, datagrams: &[Vec<u8>]) -> Vec<u8> {
         let mut stream = Vec::new();
-        for datagram in &datagrams {
+        for datagram in datagrams {
             let peer = self.random.bytes(18);
-            stream.extend(frozen(&peer, datagram));
+            let form = if self.random.one_in(20) { self.random.of(&FORMS).1 } else { form };
+            stream.extend(frozen(form, &peer, datagram));
         }
         if self.random.one_in(2) {
             stream = self.damaged_stream(&stream);
         }
-        format!("thaw old {places} {room} {}", hex(&stream))
+        stream
     }
 
     /// The datagrams of some messages, most of them good.
@@ -129,6 +151,8 @@ fn split(stream: &[u8]) -> Vec<Vec<u8>> {
         let length = match kind {
             1 => 19,
             2 => 32,
+            4 => 65,
+            129..=191 => usize::from(kind - 127),
             _ => 1,
         };
         let (record, behind) = rest.split_at(length);
@@ -143,27 +167,45 @@ pub fn peer() -> Vec<u8> {
     (0..18).collect()
 }
 
-/// Streams of up to five records, of every kind and of none; one of a short message with each byte changed, left out or
-/// doubled; and every start and room beside what a message takes.
+/// Streams of some records of every kind, thawed and converted; some of short messages with each byte changed, left
+/// out or doubled; and every start and room beside what a message takes.
 pub fn small(put: &mut dyn FnMut(String)) {
-    let mut full = vec![2, 30, 0x40, 1, 0, 1, 0xff];
-    full.resize(32, 0x61);
-    let mut short = vec![2, 4, 0x40, 1, 0, 1];
-    short.resize(32, 0);
-    let mut single = vec![2, 1, 0];
-    single.resize(32, 0);
-    let kinds: [Vec<u8>; 6] = [[&[1][..], &peer()].concat(), full, short, single, vec![3], vec![0]];
-    strings_over(&[0, 1, 2, 3, 4, 5], 5, &mut |string| {
-        let stream: Vec<u8> = string.iter().flat_map(|&kind| kinds[usize::from(kind)].clone()).collect();
-        put(format!("thaw old 9 71000 {}", hex(&stream)));
+    let kinds = kinds();
+    strings_over(&[0, 1, 2, 3, 7], 5, &mut |string| put(format!("thaw old 9 71000 {}", hex(&joined(&kinds, string)))));
+    strings_over(&[0, 4, 5, 6, 7], 5, &mut |string| put(format!("thaw new 9 71000 {}", hex(&joined(&kinds, string)))));
+    strings_over(&[0, 2, 4, 5, 7], 4, &mut |string| put(format!("thaw old 9 71000 {}", hex(&joined(&kinds, string)))));
+    strings_over(&[0, 2, 4, 7, 8, 9], 4, &mut |string| {
+        put(format!("thaw new 9 71000 {}", hex(&joined(&kinds, string))))
     });
-    let good = frozen(&peer(), &[0x40, 1, 0, 1]);
-    each_change(&good, &mut |stream| put(format!("thaw old 3 4 {}", hex(stream))));
-    for start in 0..10 {
-        for room in 50..64 {
-            put(format!("freeze old {room} {start} {} 1 0 Request.Get 0 - - -", hex(&peer())));
+    strings_over(&[0, 2, 4, 5, 7], 5, &mut |string| {
+        let stream = hex(&joined(&kinds, string));
+        FORMS.iter().for_each(|(word, _)| put(format!("convert {word} 71000 {stream}")));
+    });
+    for (word, form) in FORMS {
+        let good = frozen(form, &peer(), &[0x40, 1, 0, 1]);
+        each_change(&good, &mut |stream| put(format!("thaw {word} 3 4 {}", hex(stream))));
+        each_change(&good, &mut |stream| put(format!("convert {word} 52 {}", hex(stream))));
+        let beside = good.len() - 2..good.len() + 12;
+        for (start, room) in (0..10).flat_map(|start| beside.clone().map(move |room| (start, room))) {
+            put(format!("freeze {word} {room} {start} {} 1 0 Request.Get 0 - - -", hex(&peer())));
         }
     }
+}
+
+/// A peer; of each form a full chunk, a short one with a message and one with a byte; an end; kinds beside those of short ones.
+fn kinds() -> Vec<Vec<u8>> {
+    let mut full = vec![0x40, 1, 0, 1, 0xff];
+    full.resize(64, 0x61);
+    let old = |bytes: &[u8]| [&[2, bytes.len() as u8], bytes, &vec![0; 30 - bytes.len()]].concat();
+    let new = |kind: u8, bytes: &[u8]| [&[kind], bytes].concat();
+    let (old_full, old_short, old_single) = (old(&full[..30]), old(&full[..4]), old(&[0]));
+    let (new_full, new_short, new_single) = (new(4, &full), new(0x84, &full[..4]), new(0x81, &[0]));
+    let peer = new(1, &peer());
+    vec![peer, old_full, old_short, old_single, new_full, new_short, new_single, vec![3], vec![0x80], new(0xc0, &full)]
+}
+
+fn joined(kinds: &[Vec<u8>], string: &[u8]) -> Vec<u8> {
+    string.iter().flat_map(|&kind| kinds[usize::from(kind)].clone()).collect()
 }
 
 /// Each byte of a stream as each telling one, left out, doubled, or the first to be cut off.

@@ -60,7 +60,7 @@ impl Varied {
         if self.made % LONG == 1 && self.made / LONG < LONG_MOST {
             return self.long_strict();
         }
-        match self.random.below(42) {
+        match self.random.below(45) {
             0..=4 => {
                 let parts = self.registered();
                 format!("register {}", self.homed(&parts))
@@ -73,8 +73,9 @@ impl Varied {
             18..=22 => self.frame(),
             23..=29 => self.ranged(),
             30..=32 => self.compacted(),
-            33 | 34 => self.freeze(),
-            35..=37 => self.thaw(),
+            33..=35 => self.freeze(),
+            36..=38 => self.thaw(),
+            39 | 40 => self.convert(),
             _ => self.block_strict(),
         }
     }

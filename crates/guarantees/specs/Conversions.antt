@@ -1,0 +1,36 @@
+-- Conversions of a freeze stream between its two forms: the same messages, and there and back the same bytes.
+use Prim.Native.Nat.{ℕ, _≤_}
+use mathlib.Core.Path.{_≡_}
+use mathlib.Core.Logic.{_↔_}
+use mathlib.Core.List.{List, []}
+use lib.ListN.{length, take}
+use Rattle.refusal.specs.declared.Written.{Written}
+use Rattle.refusal.specs.declared.Written.the-variants.{Length}
+use Rattle.framing.specs.Framing.{Converts}
+use Rattle.stream.specs.declared.Form.{Form}
+use Rattle.stream.specs.declared.Form.the-variants.{Old, New}
+use Rattle.stream.specs.Stream.{Frozen, AllSized, streamOf}
+use Rattle.converting.specs.Converting.{otherForm, converted}
+use Rattle.guarantees.specs.StrictWriting.{Wrote}
+use Rattle.guarantees.specs.Streams.{IsStreamOf}
+
+pub record ConvertsExactly (from : Form) (s old : List ℕ) (r : Written) (new : List ℕ) : Type 0 where
+  -- The stream of a list is written as the stream, in the other form, of the same list.
+  pub writes : (l : List Frozen) → IsStreamOf from s l → length (streamOf (otherForm from) l) ≤ length old → Wrote (streamOf (otherForm from) l) old r new
+  -- Something is written exactly when the stream is that of a list, and there is room for the other.
+  pub exactly : ((n : ℕ) × (r ≡ Length n)) ↔ ((l : List Frozen) × IsStreamOf from s l × (length (streamOf (otherForm from) l) ≤ length old))
+
+-- So it is of every stream and output, and of every answer that meets the promise.
+abbrev pub Converting : Type 0
+Converting = (from : Form) (s old : List ℕ) (r : Written) (new : List ℕ) → Converts (converted from s) old r new → ConvertsExactly from s old r new
+
+-- There and back: with room, what was written converts back to the stream, byte for byte, from either form.
+abbrev pub ThereAndBack : Type 0
+ThereAndBack =
+    (from : Form) (s old : List ℕ) (r : Written) (new : List ℕ) (n : ℕ) → Converts (converted from s) old r new → r ≡ Length n
+    → (old₂ : List ℕ) (r₂ : Written) (new₂ : List ℕ) → length s ≤ length old₂
+    → Converts (converted (otherForm from) (take n new)) old₂ r₂ new₂ → Wrote s old₂ r₂ new₂
+
+-- A stream that has bytes has at most one form, whatever its datagrams are.
+abbrev pub OneForm : Type 0
+OneForm = (s : List ℕ) (l m : List Frozen) → AllSized l → AllSized m → s ≡ streamOf Old l → s ≡ streamOf New m → s ≡ []
