@@ -16,6 +16,7 @@ mod register;
 mod requests;
 mod sample;
 mod strict_answers;
+mod targets;
 mod uints;
 mod words;
 

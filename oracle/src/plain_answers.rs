@@ -65,7 +65,9 @@ fn answer_request(line: &[u8]) -> Option<String> {
         | b"frame-back"
         | b"freeze"
         | b"thaw"
-        | b"convert" => Some(OUTSIDE.into()),
+        | b"convert"
+        | b"target-write"
+        | b"target-read" => Some(OUTSIDE.into()),
         _ => None,
     }
 }

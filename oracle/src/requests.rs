@@ -9,6 +9,7 @@ mod ranged;
 mod registered;
 mod scripts;
 mod short;
+mod typed;
 mod varied;
 
 pub use listed::documented;
@@ -91,7 +92,7 @@ pub fn outside(out: &mut impl Write) -> io::Result<()> {
 /// The kinds of request that have a strict form; those that coap-lite has no answer to, with no plain form or over two stores;
 /// and those whose answers have counts of zeros, which coap-lite doesn't tell.
 const BOTH: [&str; 7] = ["read", "write", "write-raw", "block-new", "block-read", "block-write", "block-size"];
-const STRICT: [&str; 14] = [
+const STRICT: [&str; 16] = [
     "register",
     "properties",
     "plan",
@@ -106,6 +107,8 @@ const STRICT: [&str; 14] = [
     "freeze",
     "thaw",
     "convert",
+    "target-write",
+    "target-read",
 ];
 const COUNTED: [&str; 4] = ["uint-read", "to-uint", "block-read", "edit"];
 

@@ -42,6 +42,10 @@ fn answer_more(
     if name.index != NOWHERE {
         return compact_requests::answer(line, name.next, store, room, out, place);
     }
+    let name = target_requests::named(line);
+    if name.index != NOWHERE {
+        return target_requests::answer(name, line, store, room, out, place);
+    }
     let name = stream_requests::named(line);
     if name.index != NOWHERE {
         return stream_requests::answer(name, line, store, room, out, place);

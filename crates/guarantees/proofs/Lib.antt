@@ -22,3 +22,4 @@ pub mod Plans
 pub mod Samples
 pub mod LongSamples
 mod Tied
+pub mod Targets

@@ -71,6 +71,10 @@ use Rattle.block_value.proofs.BlockValue.new_strict.Reads as BlockNewStrict
 use Rattle.register.proofs.check.Reads as CheckRegister
 use Rattle.framing.proofs.to_frame.Reads as FrameOut
 use Rattle.framing.proofs.from_frame.Reads as FrameBack
+use Rattle.target_writing.specs.ToText.{ToText as WritesTarget}
+use Rattle.target_reading.specs.FromText.{FromText}
+use Rattle.target_writing.proofs.write_target.Reads as WriteTarget
+use Rattle.target_reading.proofs.read_target.Reads as ReadTarget
 use Rattle.plan_checking.proofs.check.Reads as CheckPlan
 use Rattle.planning.proofs.plan.Reads as MakePlan
 use Rattle.thawing.proofs.next_message.Reads as TakeMessage
@@ -243,3 +247,10 @@ convert k a r x h = h
 -- Compaction.
 compact : (k : _) (a : _) (r : _) (x : _) → Compact.Post k a r x → Compacts (a .0) (stores (now (a .1 .0)) (now (a .1 .1 .0))) (now (a .1 .1 .1 .0)) r (now (x .1 .1 .0)) (now (x .1 .1 .1 .0))
 compact k a r x h = h
+
+-- Paths and queries as text.
+write-target : (k : _) (a : _) (r : _) (x : _) → WriteTarget.Post k a r x → WritesTarget (stores (now (a .1 .0)) (now (a .1 .1 .0))) (a .0) (now (a .1 .1 .1 .0)) r (now (x .1 .1 .1 .0))
+write-target k a r x h = h
+
+read-target : (k : _) (a : _) (r : _) (x : _) → ReadTarget.Post k a r x → FromText (now (a .0)) (a .1 .1 .0) (now (a .1 .0)) r (now (x .1 .0))
+read-target k a r x h = h

@@ -12,6 +12,8 @@ use Rattle.packet.specs.declared.Home.the-variants.{Datagram}
 use Rattle.splicing.specs.declared.Edited.{Edited}
 use Rattle.compacting.specs.Compacting.{Compacts}
 use Rattle.compacting.specs.declared.Compacted.{Compacted}
+use Rattle.target_reading.specs.FromText.{FromText}
+use Rattle.target_reading.specs.declared.TargetRead.{TargetRead}
 use Rattle.typed_options.specs.Apart.{Apart}
 use Rattle.typed_options.specs.Setters.{Sets}
 
@@ -42,3 +44,9 @@ abbrev pub CompactionLeaves : Type 0
 CompactionLeaves =
     (p : Packet) (s : Stores) (second : List ℕ) (r : Compacted) (edits buffer : List ℕ) → Compacts p s second r edits buffer
     → (range : Range) → range .home ≡ Datagram → bytesOf (stores (s .datagram) edits) range ≡ bytesOf s range
+
+-- So does a text that is read into the edit store.
+abbrev pub TextLeaves : Type 0
+TextLeaves =
+    (datagram text : List ℕ) (start : ℕ) (old : List ℕ) (r : TargetRead) (new : List ℕ) → FromText text start old r new
+    → (range : Range) → range .home ≡ Datagram → bytesOf (stores datagram new) range ≡ bytesOf (stores datagram old) range

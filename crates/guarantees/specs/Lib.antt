@@ -18,3 +18,4 @@ pub mod Conversions
 pub mod Compaction
 pub mod Plans
 pub mod Samples
+pub mod Targets

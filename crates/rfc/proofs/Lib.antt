@@ -7,7 +7,11 @@ mod BlockExamples
 mod TextExamples
 mod OptionExamples
 mod RecognisedExamples
+mod UriExamples
 pub mod Message
 pub mod Frame
 pub mod Uint
 pub mod Block
+pub mod Uri
+pub mod Percent
+pub mod Target

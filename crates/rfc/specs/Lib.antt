@@ -5,3 +5,6 @@ pub mod Block
 pub mod Text
 pub mod Option
 pub mod Recognised
+pub mod Uri
+pub mod Percent
+pub mod Target

@@ -59,7 +59,7 @@ row low high r t b l h =
     sym (rw e at (same-row (lead (low + (b - low))) r (at (λ k x. same (lead (low + k)) r) (replicate (suc high - low) 0) t (b - low) k)))
 
 -- A text may end exactly where no byte is due.
-at-end : (count low high : ℕ) → textFrom (dues count low high) [] ≡ eqb count 0
+pub at-end : (count low high : ℕ) → textFrom (dues count low high) [] ≡ eqb count 0
 unfolding textFrom
 at-end zero low high = refl
 at-end (suc n) low high = rw (ne-eqb (suc n) 0 (omega arith)) refl
@@ -69,7 +69,7 @@ tails : (n : ℕ) → replicate n tail ≡ dues n 0x80 0xBF
 tails zero = refl
 tails (suc n) = refl
 
-at-next : (count low high b : ℕ) (bs : List ℕ) → (count ≡ 0 → ⊥) → textFrom (dues count low high) (b ∷ bs) ≡ both (within low high b) (textFrom (dues (count - 1) 0x80 0xBF) bs)
+pub at-next : (count low high b : ℕ) (bs : List ℕ) → (count ≡ 0 → ⊥) → textFrom (dues count low high) (b ∷ bs) ≡ both (within low high b) (textFrom (dues (count - 1) 0x80 0xBF) bs)
 unfolding textFrom
 at-next zero low high b bs z = absurd (z refl)
 at-next (suc n) low high b bs z =

@@ -5,12 +5,13 @@ ghost use Rattle.utf8.specs.Row.{rowOf};
 
 // What the first byte of a character calls for: a count of further bytes, and the lowest and the highest that the next
 // of them may be; or it begins no character.
-enum Lead {
+pub enum Lead {
     Due(u8, u8, u8),
     Never,
 }
 
-fn lead_of(b: u8) -> Lead
+// What a byte calls for that begins a character.
+pub fn lead_of(b: u8) -> Lead
     ensures { λ r. ⌜ rowOf r ≡ lead b ⌝ }
 {
     match b {

@@ -60,7 +60,7 @@ impl Varied {
         if self.made % LONG == 1 && self.made / LONG < LONG_MOST {
             return self.long_strict();
         }
-        match self.random.below(45) {
+        match self.random.below(52) {
             0..=4 => {
                 let parts = self.registered();
                 format!("register {}", self.homed(&parts))
@@ -76,6 +76,7 @@ impl Varied {
             33..=35 => self.freeze(),
             36..=38 => self.thaw(),
             39 | 40 => self.convert(),
+            41..=47 => self.target(),
             _ => self.block_strict(),
         }
     }

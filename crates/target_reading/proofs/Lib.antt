@@ -1,0 +1,4 @@
+mod Examples
+pub mod Placing
+pub mod Answers
+pub mod Meaning

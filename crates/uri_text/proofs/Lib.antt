@@ -1,0 +1,5 @@
+mod Examples
+pub mod Judging
+pub mod Said
+pub mod Identity
+pub mod Tallying
