@@ -1,11 +1,10 @@
 //! Times compaction of packets with 1, 16 and 128 records and 1 KiB to 64 KiB of live bytes, beside memcpy of the same bytes.
 //! A time is the least of many calls, in microseconds.
 
-use std::hint::black_box;
-use std::time::{Duration, Instant};
+mod least;
 
-/// How long each is called again and again.
-const LONG: Duration = Duration::from_millis(300);
+use least::least;
+use std::hint::black_box;
 
 /// How many bytes the edit store and the second buffer have.
 const STORE: usize = 70000;
@@ -86,17 +85,4 @@ fn measure(records: usize, bytes: usize) {
         true
     });
     println!("{records:>8}{bytes:>8}{packet:>10.2}{compacted:>10.2}{copied:>10.2}{:>8.1}", compacted / copied);
-}
-
-/// The least time of a call that answers true, in microseconds.
-fn least(mut call: impl FnMut() -> bool) -> f64 {
-    let mut least = Duration::MAX;
-    let begin = Instant::now();
-    while begin.elapsed() < LONG {
-        let start = Instant::now();
-        let right = call();
-        least = least.min(start.elapsed());
-        assert!(right);
-    }
-    least.as_secs_f64() * 1e6
 }

@@ -1,11 +1,10 @@
 //! Times the planner and the check of its plan, on images of several sizes with several patterns of what is held.
 //! A time is the least of many calls, in microseconds.
 
-use std::hint::black_box;
-use std::time::{Duration, Instant};
+mod least;
 
-/// How long each is called again and again.
-const LONG: Duration = Duration::from_millis(300);
+use least::least;
+use std::hint::black_box;
 
 // A slice is a pointer and a length.
 extern "C" {
@@ -55,17 +54,4 @@ fn measure(name: &str, held: &[u8]) {
     let mut short = vec![0; count];
     let counted = least(|| plan(black_box(held), black_box(&mut short)) == count);
     println!("{name:22}{:>8}{count:>8}{planned:>10.1}{checked:>10.1}{counted:>14.1}", held.len());
-}
-
-/// The least time of a call that answers true, in microseconds.
-fn least(mut call: impl FnMut() -> bool) -> f64 {
-    let mut least = Duration::MAX;
-    let begin = Instant::now();
-    while begin.elapsed() < LONG {
-        let start = Instant::now();
-        let right = call();
-        least = least.min(start.elapsed());
-        assert!(right);
-    }
-    least.as_secs_f64() * 1e6
 }

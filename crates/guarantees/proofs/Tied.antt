@@ -89,6 +89,12 @@ use Rattle.option_value.proofs.OptionValueU16.try_from.Reads as FromU16
 use Rattle.option_value.proofs.OptionValueU32.try_from.Reads as FromU32
 use Rattle.option_value.proofs.OptionValueU64.try_from.Reads as FromU64
 use Rattle.option_value.proofs.option_to_text.Reads as ToText
+use Rattle.option_value.proofs.OptionValueU8.into_bytes.Reads as IntoU8
+use Rattle.option_value.proofs.OptionValueU16.into_bytes.Reads as IntoU16
+use Rattle.option_value.proofs.OptionValueU32.into_bytes.Reads as IntoU32
+use Rattle.option_value.proofs.OptionValueU64.into_bytes.Reads as IntoU64
+use Rattle.option_value.proofs.option_from_uint.Reads as PutUint
+use Rattle.option_value.proofs.option_from_text.Reads as PutText
 use Rattle.code_text.proofs.code_in.Reads as CodeIn
 
 -- Getters.
@@ -164,6 +170,28 @@ set-content-format k a r x h = h
 
 set-observe-value : (k : _) (a : _) (r : _) (x : _) → SetObserve.Post k a r x → Sets (a .0) (observeSet (now (a .1 .0)) (a .1 .1 .0) (a .0) (a .1 .1 .1 .0)) (a .1 .1 .0) (uint 4 (a .1 .1 .1 .0)) (now (a .1 .0)) r (now (x .1 .0))
 set-observe-value k a r x h = h
+
+-- The writers of uints and of text: an answer, and the output by it.
+abbrev Writes : Answer ℕ → List ℕ → List ℕ → Written → List ℕ → Type 0
+Writes a bytes old r new = (written r ≡ a) × (new ≡ after a 0 bytes old)
+
+u8-into : (k : _) (a : _) (r : _) (x : _) → IntoU8.Post k a r x → Writes (fitted (length (now (a .1 .0))) (uint 1 (a .0 .0))) (uint 1 (a .0 .0)) (now (a .1 .0)) r (now (x .1 .0))
+u8-into k a r x h = h
+
+u16-into : (k : _) (a : _) (r : _) (x : _) → IntoU16.Post k a r x → Writes (fitted (length (now (a .1 .0))) (uint 2 (a .0 .0))) (uint 2 (a .0 .0)) (now (a .1 .0)) r (now (x .1 .0))
+u16-into k a r x h = h
+
+u32-into : (k : _) (a : _) (r : _) (x : _) → IntoU32.Post k a r x → Writes (fitted (length (now (a .1 .0))) (uint 4 (a .0 .0))) (uint 4 (a .0 .0)) (now (a .1 .0)) r (now (x .1 .0))
+u32-into k a r x h = h
+
+u64-into : (k : _) (a : _) (r : _) (x : _) → IntoU64.Post k a r x → Writes (fitted (length (now (a .1 .0))) (uint 8 (a .0 .0))) (uint 8 (a .0 .0)) (now (a .1 .0)) r (now (x .1 .0))
+u64-into k a r x h = h
+
+option-from-uint : (k : _) (a : _) (r : _) (x : _) → PutUint.Post k a r x → Writes (fitted (length (now (a .1 .0))) (uint 8 (a .0))) (uint 8 (a .0)) (now (a .1 .0)) r (now (x .1 .0))
+option-from-uint k a r x h = h
+
+option-from-text : (k : _) (a : _) (r : _) (x : _) → PutText.Post k a r x → Writes (writeText (length (now (a .1 .0))) (now (a .0))) (now (a .0)) (now (a .1 .0)) r (now (x .1 .0))
+option-from-text k a r x h = h
 
 -- Text and codes.
 option-to-text : (k : _) (a : _) (r : _) (x : _) → ToText.Post k a r x → textOf r ≡ readText (now (a .0))
