@@ -7,7 +7,6 @@ use native.Mathlib.Omega.{arith}
 use lib.ListN.{length, length-append}
 use lib.Seq.{take-at, drop-at}
 use borrow.Author.Tests.{le-leb}
-use Rattle.rfc.specs.Message.{Opt}
 use Rattle.ground.proofs.Choice.{neither}
 use Rattle.packet.specs.Packet.{Stores, stores, bytesIn, bytesOf, valueOf, recordsOf}
 use Rattle.packet.specs.Meaning.{optionOf, meaning}
@@ -18,7 +17,8 @@ use Rattle.header.specs.Header.{numberOfType}
 use Rattle.judging.specs.Judge.{lengthsOf, badValue, badValues}
 use Rattle.judging.proofs.Good.{Good}
 use Rattle.compacting.specs.Compacting.{valuesOf, liveBytes, valuesLength, relaid, relocated}
-use Rattle.compacting.proofs.Live.{range-exactly, value-exactly, values-exactly}
+use Rattle.judging.proofs.Ranges.{range-exactly, value-exactly}
+use Rattle.compacting.proofs.Live.{values-exactly}
 use Rattle.compacting.proofs.Relaid.{relocated-records}
 
 -- What stands between two parts of a store is named by their lengths.

@@ -1,7 +1,7 @@
 // A pass over the lines: to judge them, or to freeze them. An empty line is no message.
 use freezing::freeze;
 use hex::put_unhexed;
-use peers::peer_in;
+use peer_reading::peer_in;
 use placing::put_bytes;
 use reading::from_bytes_strict;
 use refusal::Outcome;

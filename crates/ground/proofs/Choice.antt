@@ -38,6 +38,14 @@ pub either-right : (a b : Bool) → b ≡ true → either a b ≡ true
 either-right true b e = refl
 either-right false b e = e
 
+-- Both tests hold exactly where `both` does.
+pub both-true : (a b : Bool) → both a b ≡ true → (a ≡ true) × (b ≡ true)
+both-true true b e = (refl, e)
+both-true false b e = (e, cc)
+
+pub true-both : (a b : Bool) → a ≡ true → b ≡ true → both a b ≡ true
+true-both a b p q = rw (p, q)
+
 -- Where two tests don't both hold and the first does, the second doesn't.
 pub not-both : (a b : Bool) → both a b ≡ false → a ≡ true → b ≡ false
 not-both true b e t = e

@@ -1,5 +1,7 @@
 -- No second answer meets a promise: the law, and each definition that tells answers apart.
+use Prim.Native.Nat.{ℕ}
 use mathlib.Core.Path.{sym, ap, _∙_, _≡_, refl}
+use mathlib.Core.List.{List}
 use Rattle.refusal.specs.Number.{numberOf}
 use Rattle.refusal.proofs.Distinct.{distinct, one-written, one-outcome}
 use Rattle.decimal.specs.Decimal.{decimalOf}
@@ -22,6 +24,11 @@ use Rattle.stream.specs.declared.Judged.the-variants.{Messages, Refused as NoSt
 use Rattle.stream.specs.Answers.{Extent, Tally, stepRead, judged as streamJudged}
 use Rattle.thawing.specs.declared.Strict.the-variants.{Messages as StrictMessages, Refused as NotStrict}
 use Rattle.thawing.specs.Thawing.{Counts, strictlyIn}
+use Rattle.peer_reading.specs.Reading.{peerOf}
+use Rattle.uri_text.specs.Judging.{judgedRead}
+use Rattle.uri_text.specs.Tally.{Tally as UriTally, tallied}
+use Rattle.uri_text.specs.declared.Judged.the-variants.{Length, BadText as NoText, BadOption as NoOption}
+use Rattle.uri_text.specs.declared.Tallied.the-variants.{Values, BadText as NoUri, BadOption as NotSaid}
 use Rattle.packet.specs.declared.Packet.{Packet}
 use Rattle.reading.specs.Reading.{decoded}
 use Rattle.guarantees.specs.Determined.{TellsApart, OneAnswer, Told, OneVerdict, OnePlan, OneConversion, OneCompaction, OneThawing, OneFreezing}
@@ -79,6 +86,33 @@ one-strict (StrictMessages a b c) (NotStrict y) e = cc
 one-strict (NotStrict x) (StrictMessages d f g) e = cc
 one-strict (NotStrict x) (NotStrict y) e = let k : numberOf x ≡ numberOf y = cc in rw (distinct x y k)
 
+one-uri-part : TellsApart judgedRead
+one-uri-part (Length m) (Length n) e = cc
+one-uri-part (Length m) NoText e = cc
+one-uri-part (Length m) (NoOption j) e = cc
+one-uri-part NoText (Length n) e = cc
+one-uri-part NoText NoText e = refl
+one-uri-part NoText (NoOption j) e = cc
+one-uri-part (NoOption i) (Length n) e = cc
+one-uri-part (NoOption i) NoText e = cc
+one-uri-part (NoOption i) (NoOption j) e = cc
+
+one-uri-text : TellsApart tallied
+one-uri-text (Values a b) (Values c d) e = let k : _≡_ {A = UriTally} (record { count = a; bytes = b }) (record { count = c; bytes = d }) = cc in rw (ap (λ (x : UriTally). x .count) k, ap (λ (x : UriTally). x .bytes) k)
+one-uri-text (Values a b) NoUri e = cc
+one-uri-text (Values a b) (NotSaid j) e = cc
+one-uri-text NoUri (Values c d) e = cc
+one-uri-text NoUri NoUri e = refl
+one-uri-text NoUri (NotSaid j) e = cc
+one-uri-text (NotSaid i) (Values c d) e = cc
+one-uri-text (NotSaid i) NoUri e = cc
+one-uri-text (NotSaid i) (NotSaid j) e = cc
+
+one-peer-read : TellsApart peerOf
+one-peer-read x y e =
+    let o = one-outcome (x .outcome) (y .outcome) (ap (λ (r : Beside (List ℕ)). r .answer) e) in
+    λ i. record { outcome = o i; bytes = ap (λ (r : Beside (List ℕ)). r .value) e i }
+
 pub told : Told
 told =
     record {
@@ -107,6 +141,9 @@ told =
       messages = one-step;
       streams = one-stream;
       strict-streams = one-strict;
+      uri-parts = one-uri-part;
+      uri-texts = one-uri-text;
+      peers-read = one-peer-read;
     }
 
 pub one-verdict : OneVerdict

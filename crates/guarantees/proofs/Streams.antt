@@ -101,16 +101,21 @@ judged-exactly form other s r p = (
 )
 
 -- A refusal that is 19 is BadFreeze.
-is-19 : (r : Strict) (k : ℕ) → strictlyIn r ≡ refused k → k ≡ 19 → r ≡ NoMessages BadFreeze
-is-19 (Messages a b c) k e f = not-refused e
-is-19 (NoMessages x) k e f = let n : numberOf x ≡ numberOf BadFreeze = same-refused e ∙ f in ap NoMessages (distinct x BadFreeze n)
+is-19 : (r : Strict) → strictlyIn r ≡ refused 19 → r ≡ NoMessages BadFreeze
+is-19 (Messages a b c) e = not-refused e
+is-19 (NoMessages x) e = let n : numberOf x ≡ numberOf BadFreeze = same-refused e in ap NoMessages (distinct x BadFreeze n)
+
+-- Bytes that are no stream of a form aren't read in it.
+pub not-thawed : (form : Form) (s : List ℕ) → ((l : List Frozen) → AllSized l → s ≡ streamOf form l → ⊥) → thawed form s ≡ refused 19
+not-thawed form s none = by (thawed form s) refl (exact form .refusal s)
+  where
+    by : (a : Answer (List Frozen)) → thawed form s ≡ a → Only19 a → thawed form s ≡ refused 19
+    by (given l) e o = let h = exact form .sound s l e in absurd (none l (h .1) (h .0))
+    by (refused k) e o = e ∙ ap refused o
 
 pub no-stream : NoStream
-no-stream form other s r p none = by (thawed form s) refl (exact form .refusal s)
-  where
-    by : (a : Answer (List Frozen)) → thawed form s ≡ a → Only19 a → r ≡ NoMessages BadFreeze
-    by (given l) e o = let h = exact form .sound s l e in absurd (none l (h .1) (h .0))
-    by (refused k) e o = is-19 r k (p ∙ ap (λ (a : Answer (List Frozen)). countsOf other (onward a strict)) e) o
+no-stream form other s r p none =
+    is-19 r (p ∙ ap (λ (a : Answer (List Frozen)). countsOf other (onward a strict)) (not-thawed form s none))
 
 pub message-sizes : MessageSizes
 message-sizes = message-size

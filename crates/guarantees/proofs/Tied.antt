@@ -82,6 +82,11 @@ use Rattle.thawing.proofs.judge_strictly.Reads as JudgeStream
 use Rattle.thawing.proofs.thaw.Reads as ThawStream
 use Rattle.freezing.proofs.freeze.Reads as FreezePacket
 use Rattle.converting.proofs.convert.Reads as ConvertStream
+use Rattle.placing.specs.Put.{Puts}
+use Rattle.peers.specs.Text.{peerText}
+use Rattle.peer_reading.specs.Reading.{peerIn, ReadsPeer}
+use Rattle.peers.proofs.put_peer.Reads as PutPeer
+use Rattle.peer_reading.proofs.peer_in.Reads as ReadPeer
 use Rattle.compacting.proofs.compact.Reads as Compact
 use Rattle.header.proofs.Header.set_code.Reads as SetCode
 use Rattle.option_value.proofs.OptionValueU8.try_from.Reads as FromU8
@@ -271,6 +276,13 @@ freeze k a r x h = h
 -- Conversions of streams.
 convert : (k : _) (a : _) (r : _) (x : _) → ConvertStream.Post k a r x → Converts (converted (a .0) (now (a .1 .0))) (now (a .1 .1 .0)) r (now (x .1 .1 .0))
 convert k a r x h = h
+
+-- Peers as text.
+put-peer : (k : _) (a : _) (r : _) (x : _) → PutPeer.Post k a r x → Puts (now (a .0)) (a .1 .0) (peerText (a .1 .1 .0)) r (now (x .0))
+put-peer k a r x h = h
+
+peer-in : (k : _) (a : _) (r : _) (x : _) → ReadPeer.Post k a r x → ReadsPeer (peerIn (now (a .0))) r
+peer-in k a r x h = h
 
 -- Compaction.
 compact : (k : _) (a : _) (r : _) (x : _) → Compact.Post k a r x → Compacts (a .0) (stores (now (a .1 .0)) (now (a .1 .1 .0))) (now (a .1 .1 .1 .0)) r (now (x .1 .1 .0)) (now (x .1 .1 .1 .0))

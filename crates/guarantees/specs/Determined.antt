@@ -28,6 +28,9 @@ use Rattle.stream.specs.declared.Form.{Form}
 use Rattle.stream.specs.Answers.{stepRead, judged as streamJudged}
 use Rattle.thawing.specs.Thawing.{strictlyIn, Thaws}
 use Rattle.freezing.specs.Freezing.{Freezes}
+use Rattle.uri_text.specs.Judging.{judgedRead}
+use Rattle.uri_text.specs.Tally.{tallied}
+use Rattle.peer_reading.specs.Reading.{peerOf}
 use Rattle.compacting.specs.Compacting.{Compacts}
 use Rattle.compacting.specs.declared.Compacted.{Compacted}
 
@@ -72,6 +75,9 @@ pub record Told : Type 0 where
   pub messages : TellsApart stepRead
   pub streams : TellsApart streamJudged
   pub strict-streams : TellsApart strictlyIn
+  pub uri-parts : TellsApart judgedRead
+  pub uri-texts : TellsApart tallied
+  pub peers-read : TellsApart peerOf
 
 -- So a plan has one verdict; and an image, with what is held of it, one plan in one list.
 abbrev pub OneVerdict : Type 0

@@ -9,7 +9,7 @@ use lib.ListN.{length}
 use borrow.Author.Tests.{leb-true, eqb-true}
 use Rattle.ground.specs.Choice.{within}
 use Rattle.image.specs.Image.{units, fits}
-use Rattle.image.proofs.Tests.{both-true}
+use Rattle.ground.proofs.Choice.{both-true}
 
 pub record Fitting (size : ℕ) (held : List ℕ) : Type 0 where
   pub least : 1 ≤ size

@@ -12,9 +12,9 @@ use lib.Seq.{getD-take, getD-drop, drop-cons}
 use borrow.Author.Tests.{eq-eqb, ne-eqb, eqb-true, eqb-false}
 use Rattle.ground.specs.Choice.{both}
 use Rattle.ground.specs.Part.{part}
-use Rattle.ground.proofs.Choice.{by-eq}
+use Rattle.ground.proofs.Choice.{by-eq, both-true, true-both}
 use Rattle.image.specs.Image.{missing, alike, NoneMissing, NoneHeld}
-use Rattle.image.proofs.Tests.{both-true, true-both, same-test, test-same}
+use Rattle.image.proofs.Tests.{same-test, test-same}
 
 -- Units are alike exactly where each of them is so.
 alike-from : (w : Bool) (xs : List ℕ) → ((i : ℕ) → i < length xs → missing xs i ≡ w) → alike w xs ≡ true

@@ -1,4 +1,5 @@
 pub mod Order
 pub mod Places
 pub mod Good
+pub mod Ranges
 pub mod Judging

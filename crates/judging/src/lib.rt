@@ -137,7 +137,7 @@ fn size_after(before: u16, option: OptionRecord) -> usize
 }
 
 // How many extension bytes a delta or a length takes.
-fn extension_size(n: usize) -> usize
+pub fn extension_size(n: usize) -> usize
     ensures { λ r. ⌜ r ≡ extensionSize n ⌝ }
 {
     if n < 13 {

@@ -7,9 +7,10 @@ use native.Mathlib.Nat.{sub-zero}
 use native.Mathlib.Omega.{arith}
 use lib.ListN.{length, set, length-set, length-append}
 use lib.Dec.{ltb}
-use borrow.Author.Tests.{ltb-true}
+use borrow.Author.Tests.{ltb-true, lt-ltb, le-ltb}
 use Rattle.ground.specs.Choice.{both}
 use Rattle.ground.proofs.Choice.{on-lt}
+use Rattle.judging.specs.Judge.{extensionSize}
 use Rattle.rfc.specs.Message.{Opt, nibbleOf, extensionOf, optionLayout, optionsLayout, payloadLayout, headerLayout, layout}
 use Rattle.rfc.proofs.Message.{nibble-none, extension-none}
 use Rattle.class.specs.Class.{byteOf}
@@ -24,10 +25,12 @@ pub layout-pieces : (h : Header) (token : List ℕ) (options : List Opt) (payloa
 unfolding layout headerLayout
 layout-pieces h token options payload = append-assoc (headerLayout (headed h token)) token (optionsLayout 0 options ++ payloadLayout payload)
 
--- An extension has two bytes at most.
-pub extension-small : (n : ℕ) → length (extensionOf n) ≤ 2
-unfolding extensionOf
-extension-small n = on-lt (λ (l : List ℕ). length l ≤ 2) n 13 (λ h. omega arith) (λ h. on-lt (λ (l : List ℕ). length l ≤ 2) n 269 (λ k. omega arith) (λ k. omega arith))
+-- An extension has as many bytes as are counted.
+pub extension-length : (n : ℕ) → length (extensionOf n) ≡ extensionSize n
+unfolding extensionOf extensionSize
+extension-length n =
+    on-lt (λ (l : List ℕ). length l ≡ extensionSize n) n 13 (λ h. simp (lt-ltb n 13 h))
+    (λ h. on-lt (λ (l : List ℕ). length l ≡ extensionSize n) n 269 (λ k. simp (le-ltb n 13 h, lt-ltb n 269 k)) (λ k. simp (le-ltb n 13 h, le-ltb n 269 k)))
 
 -- The length of an option by its parts.
 pub option-length : (before : ℕ) (o : Opt) → length (optionLayout before o) ≡ sizeOf (o .number - before) (length (o .value))

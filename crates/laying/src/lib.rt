@@ -1,6 +1,7 @@
 // The pieces of a message put into a lent output: the header with its token, an option, the payload. Each function judges and
 // counts before it puts a byte, so that a refused piece changes nothing.
 use header::Header;
+use judging::extension_size;
 use packet::limits::MAX_TOKEN;
 use packet::limits::MAX_VALUE;
 use placing::put_bytes;
@@ -83,19 +84,6 @@ fn option_size(delta: usize, len: usize) -> usize
         return 1 + len;
     }
     1 + extension_size(delta) + extension_size(len) + len
-}
-
-// How many extension bytes a delta or a length takes.
-fn extension_size(n: usize) -> usize
-    ensures { λ r. ⌜ r ≡ length (extensionOf n) ⌝ }
-{
-    if n < 13 {
-        return 0;
-    }
-    if n < 269 {
-        return 1;
-    }
-    2
 }
 
 // The option's bytes, where there is room for them: the byte of the nibbles, the two extensions, the value.

@@ -1,15 +1,8 @@
 // Refusals, by number and name.
-use crate::wording::put_number;
 use placing::put_byte;
-use placing::put_bytes;
 use refusal::Refusal;
-use words::part;
-use words::place_in;
-
-// The names of the refusals in the order of their numbers from 1, with a semicolon after each, up to the last that a text or a
-// packet can have.
-const NAMES: [u8; 209] =
-    *b"InvalidHeader;InvalidTokenLength;InvalidOptionDelta;InvalidOptionLength;InvalidPacketLength;TooManyOptions;WrongVersion;EmptyCarries;MarkerAlone;TooLong;BadRecord;NoRoom;BadUint;BadBlockSize;BadText;BadOption;";
+use reports::put_name;
+use reports::put_number;
 
 // refused 15 BadText
 pub fn put_refused(out: &mut [u8], place: usize, why: Refusal) -> usize {
@@ -29,12 +22,4 @@ fn put_named(out: &mut [u8], place: usize, number: u8) -> usize {
     let next = put_number(out, place, b"refused ", number as u64);
     let next = put_byte(out, next, b' ');
     put_name(out, next, number)
-}
-
-fn put_name(out: &mut [u8], place: usize, number: u8) -> usize {
-    if number == 0 {
-        return place;
-    }
-    let name = place_in(&NAMES, (number - 1) as usize);
-    put_bytes(out, place, part(&NAMES, name.start, name.end))
 }

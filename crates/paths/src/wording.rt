@@ -1,16 +1,23 @@
 // The lines of an answer.
-use decimal::put_decimal;
 use hex::put_hex;
 use placing::put_byte;
 use placing::put_bytes;
+use reports::put_number;
 
 // record 11, 2 bytes, text ab
 pub fn put_record(out: &mut [u8], place: usize, number: u16, value: &[u8]) -> usize {
     let next = put_number(out, place, b"record ", number as u64);
     let next = put_number(out, next, b", ", value.len() as u64);
-    let next = put_bytes(out, next, b" bytes, ");
+    let next = put_unit(out, next, value.len());
     let next = put_value(out, next, value);
     put_byte(out, next, b'\n')
+}
+
+fn put_unit(out: &mut [u8], place: usize, count: usize) -> usize {
+    if count == 1 {
+        return put_bytes(out, place, b" byte, ");
+    }
+    put_bytes(out, place, b" bytes, ")
 }
 
 // Puts a value as text where every byte is a printable character, or else as hexadecimal digits.
@@ -56,10 +63,4 @@ pub fn put_text(out: &mut [u8], place: usize, text: &[u8]) -> usize {
 pub fn put_count(out: &mut [u8], place: usize, count: usize) -> usize {
     let next = put_number(out, place, b"lines ", count as u64);
     put_byte(out, next, b'\n')
-}
-
-// Puts a number, with a text before it.
-pub fn put_number(out: &mut [u8], place: usize, text: &[u8], number: u64) -> usize {
-    let next = put_bytes(out, place, text);
-    put_decimal(out, next, number)
 }

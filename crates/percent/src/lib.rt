@@ -59,7 +59,7 @@ fn is_literal(kind: Kind, c: u8) -> bool
 }
 
 // The number of a hexadecimal digit, of either case; 16 for any other character.
-fn hex_value(c: u8) -> u8
+pub fn hex_value(c: u8) -> u8
     ensures { λ r. ⌜ r ≡ hexValue c ⌝ }
 {
     match c {

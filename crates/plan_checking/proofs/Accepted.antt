@@ -9,12 +9,11 @@ use lib.ListN.{length, getD}
 use borrow.Author.Tests.{ltb-true, lt-ltb, leb-true, le-leb, eqb-true, eq-eqb, ne-eqb}
 use Rattle.ground.specs.Choice.{pick, both}
 use Rattle.rfc.specs.Block.{Block, Valid, blockOf}
-use Rattle.ground.proofs.Choice.{by-lt, by-eq, on}
+use Rattle.ground.proofs.Choice.{by-lt, by-eq, on, both-true, true-both}
 use Rattle.refusal.specs.Answer.{Answer, given, refused}
 use Rattle.image.specs.Image.{fits, missing}
 use Rattle.plan_checking.specs.Plan.{start, stop, over, each, below, strict, rising, inside, fetched, flagged, accepted, checking}
 use Rattle.plan_checking.specs.Accepted.{Each, Rising, Flagged, Accepted, Good}
-use Rattle.image.proofs.Tests.{both-true, true-both}
 
 -- From a test of each block to a fact of each block, and back.
 each-says : (f : Block → Bool) (P : Block → Type 0) → ((b : Block) → f b ≡ true → P b) → (bs : List Block) → each f bs ≡ true → Each P bs

@@ -10,10 +10,9 @@ use lib.Pow.{pow-pos, mod-mod-pow}
 use lib.ListN.{length, take}
 use borrow.Author.Tests.{eq-eqb, eqb-true}
 use Rattle.rfc.specs.Block.{Block}
-use Rattle.ground.proofs.Choice.{on, on-eq}
+use Rattle.ground.proofs.Choice.{on, on-eq, both-true}
 use Rattle.planning.specs.Planner.{mayStart, largestUpTo, largest, planFrom, planned}
 use Rattle.image.specs.Image.{alike}
-use Rattle.image.proofs.Tests.{both-true}
 
 -- At an odd unit only a block of one unit may start.
 odd : (k unit : ℕ) (rest : List ℕ) → unit % 2 ≡ 1 → largestUpTo k unit rest ≡ 0

@@ -11,10 +11,9 @@ use lib.Pow.{pow-mono, mod-mod-pow}
 use lib.ListN.{getD, drop}
 use borrow.Author.Tests.{eq-eqb, eqb-true}
 use Rattle.ground.specs.Part.{part}
-use Rattle.ground.proofs.Choice.{on, by-lt}
+use Rattle.ground.proofs.Choice.{on, by-lt, both-true}
 use Rattle.planning.specs.Planner.{mayStart, largestUpTo, largest, Largest}
 use Rattle.image.specs.Image.{alike, NoneHeld}
-use Rattle.image.proofs.Tests.{both-true}
 use Rattle.image.proofs.Spans.{missing-so, so-missing}
 use Rattle.plan_checking.specs.Steps.{Width}
 use Rattle.plan_checking.proofs.Tests.{clash}

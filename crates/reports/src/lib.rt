@@ -1,4 +1,4 @@
-// What the programs on streams say besides their output: refusals by number and name, the verdict, and how far they are.
+// What programs say besides their output: refusals by number and name, the verdict, and how far they are.
 use decimal::put_decimal;
 use libc::STDERR_FILENO;
 use libc::STDOUT_FILENO;
@@ -22,7 +22,8 @@ pub fn put_refused(out: &mut [u8], at: usize, why: Refusal, what: &[u8], which: 
     put_byte(out, next, b'\n')
 }
 
-fn put_name(out: &mut [u8], at: usize, number: u8) -> usize {
+// Puts the name of a refusal, by its number.
+pub fn put_name(out: &mut [u8], at: usize, number: u8) -> usize {
     if number == 0 {
         return at;
     }

@@ -3,7 +3,8 @@ use Prim.Native.Nat.{ℕ, zero, suc, _+_, _≤_}
 use mathlib.Core.Path.{_≡_, refl, sym, ap, _∙_}
 use mathlib.Core.List.{List, [], _∷_, _++_, append-assoc}
 use native.Mathlib.Omega.{arith}
-use lib.ListN.{length, getD}
+use lib.ListN.{length, getD, drop}
+use lib.Seq.{drop-at}
 use Rattle.ground.specs.Part.{part}
 use Rattle.ground.proofs.Choice.{on, on-lt, on-eq}
 use Rattle.refusal.specs.Answer.{Answer, given}
@@ -11,10 +12,10 @@ use Rattle.refusal.proofs.Answers.{Refusing, refusing-onward, same-given}
 use Rattle.packet.specs.Limits.{fullSize}
 use Rattle.stream.specs.declared.Form.{Form}
 use Rattle.stream.specs.declared.Form.the-variants.{Old, New}
-use Rattle.stream.specs.Stream.{Frozen, AllSized, full, headSize, padding, messageOf, streamOf}
-use Rattle.stream.specs.Messages.{countAt, chunkEnd, zeros, chunkAt, bodyAt, sizedBody, messageAt, messagesAt, thawed}
+use Rattle.stream.specs.Stream.{Frozen, Sized, AllSized, full, headSize, padding, messageOf, streamOf}
+use Rattle.stream.specs.Messages.{countAt, chunkEnd, zeros, chunkAt, bodyAt, Found, sizedBody, messageAt, messagesAt, thawed}
 use Rattle.stream.proofs.Sound.{thawed-sound}
-use Rattle.stream.proofs.Complete.{thawed-complete, first-chunk}
+use Rattle.stream.proofs.Complete.{message-complete, thawed-complete, first-chunk}
 
 -- The only refusal is 19.
 abbrev pub Only19 : {A : Type 0} → Answer A → Type 0
@@ -90,6 +91,10 @@ two-counts s at =
     (λ f. on-lt (λ (n : ℕ). 1 ≤ n → ⊥) (getD s at 0) 192 (λ g b. omega arith) (λ g b. omega arith)))
     (λ e a b. omega arith)
 
+-- No bytes begin with a message of each form.
+pub two-firsts : (s : List ℕ) (x y : Frozen) (a b : List ℕ) → Sized x → Sized y → s ≡ messageOf Old x ++ a → s ≡ messageOf New y ++ b → ⊥
+two-firsts s x y a b z w e f = two-counts s 19 (first-chunk Old s x a z e) (first-chunk New s y b w f)
+
 -- Only the stream of no bytes has both forms.
 pub one-form : (s : List ℕ) (l m : List Frozen) → thawed Old s ≡ given l → thawed New s ≡ given m → s ≡ []
 one-form s [] m e f = thawed-sound Old s [] e .0
@@ -97,4 +102,13 @@ one-form s (x ∷ l) [] e f = thawed-sound New s [] f .0
 one-form s (x ∷ l) (y ∷ m) e f =
     let a = thawed-sound Old s (x ∷ l) e in
     let b = thawed-sound New s (y ∷ m) f in
-    absurd (two-counts s 19 (first-chunk Old s x (streamOf Old l) (a .1 .0) (a .0)) (first-chunk New s y (streamOf New m) (b .1 .0) (b .0)))
+    absurd (two-firsts s x y (streamOf Old l) (streamOf New m) (a .1 .0) (b .1 .0) (a .0) (b .0))
+
+-- Bytes that begin with a message of a form, and with another of that form: the same follows both.
+pub same-rest : (form : Form) (x y : Frozen) (a b : List ℕ) → Sized x → Sized y → messageOf form x ++ a ≡ messageOf form y ++ b → a ≡ b
+same-rest form x y a b z w e =
+    let s : List ℕ = messageOf form x ++ a in
+    let f = same-given (sym (message-complete form s 0 x a (omega arith) z refl) ∙ message-complete form s 0 y b (omega arith) w e) in
+    let m : List ℕ = messageOf form y in
+    let i : messageOf form x ≡ m = ap (λ (r : Found). messageOf form (r .message)) f in
+    sym (drop-at m a (length m) refl) ∙ (ap (λ (l : List ℕ). drop (length m) (l ++ a)) (sym i) ∙ (ap (drop (length m)) e ∙ drop-at m b (length m) refl))

@@ -1,59 +1,66 @@
 -- A message judged with its datagram: each way out, and what an accepted one says.
-use Prim.Native.Nat.{ℕ, _+_}
+use Prim.Native.Nat.{ℕ, _+_, _-_, _<_, _≤_, min}
 use mathlib.Core.Path.{_≡_, refl, sym, ap, _∙_}
 use mathlib.Core.Bool.{true}
-use mathlib.Core.List.{List}
+use mathlib.Core.List.{List, []}
 use native.Mathlib.Omega.{arith}
-use native.Mathlib.Nat.{zero-add}
-use borrow.Author.Tests.{le-ltb}
-use lib.ListN.{length, take, drop}
-use lib.Seq.{sets, take-at}
-use Rattle.ground.proofs.Part.{put-front}
-use Rattle.refusal.specs.Answer.{Answer, given, refused, onward, after}
+use lib.ListN.{length}
+use lib.Seq.{take-all}
+use Rattle.ground.specs.Part.{part}
+use Rattle.refusal.specs.Answer.{Answer, given, refused, onward}
 use Rattle.refusal.proofs.Answers.{not-refused, same-given, same-refused, on-given}
-use Rattle.packet.specs.Limits.{fullSize}
 use Rattle.packet.specs.declared.Packet.{Packet}
 use Rattle.reading.specs.Reading.{reading}
 use Rattle.stream.specs.declared.Form.{Form}
-use Rattle.stream.specs.Messages.{Found, messageAt}
-use Rattle.stream.specs.Answers.{Extent, extent}
+use Rattle.stream.specs.Stream.{full, headSize}
+use Rattle.stream.specs.Messages.{bodyAt, Found, messageAt}
+use Rattle.stream.specs.Answers.{Extent}
 use Rattle.stream.proofs.Sound.{Message, message-sound}
 use Rattle.stream.proofs.Walk.{Whole}
-use Rattle.thawing.specs.Message.{foundBytes, extentOf, nextIn, strictAt}
-use Rattle.thawing.proofs.Message.{whole-extent}
+use Rattle.thawing.specs.Message.{bodyBytes, extentOf, strictBefore, strictAt}
+use Rattle.thawing.proofs.Message.{whole-bytes, whole-length}
+use Rattle.thawing.proofs.Copy.{copy-start, copy-part, copy-inside}
+
+module _ (d : List ℕ) (next : ℕ) where
+  pub before-refused : (k : ℕ) → reading true d ≡ refused k → refused k ≡ strictBefore d next
+  before-refused k e = rw e refl
+
+  pub before-given : (p : Packet) → reading true d ≡ given p → given (record { len = length d; next = next }) ≡ strictBefore d next
+  before-given p e = rw e refl
 
 module _ (form : Form) (s : List ℕ) (at : ℕ) where
-  -- A datagram of at most 1,280 bytes always has room in as many.
-  fits-by : (a : Answer Found) → messageAt form s at ≡ a → nextIn form s at fullSize 0 ≡ extent a
-  fits-by (given m) e =
-      let k = on-given (Message form s at) (messageAt form s at) m (message-sound form s at) e in
-      let z = zero-add (length (m .message .datagram)) in
-      rw (e, le-ltb fullSize (0 + length (m .message .datagram)) (omega (arith, k .sized .most))) refl
-  fits-by (refused k) e = rw e refl
-
-  pub fits-full : nextIn form s at fullSize 0 ≡ extent (messageAt form s at)
-  fits-full = fits-by (messageAt form s at) refl
-
   pub strict-bad : (k : ℕ) → messageAt form s at ≡ refused k → strictAt form s at ≡ refused k
   unfolding strictAt
   strict-bad k e = rw e refl
 
   module _ (len next : ℕ) (o : Whole form s at len next) where
-    -- What stands at the front of an array of 1,280 bytes.
-    pub whole-front : (old new : List ℕ) → length old ≡ fullSize → new ≡ after (nextIn form s at (length old) 0) 0 (foundBytes (messageAt form s at)) old → take len new ≡ o .found .message .datagram
-    whole-front old new f p =
-        let d : List ℕ = o .found .message .datagram in
-        let a : nextIn form s at (length old) 0 ≡ given (extentOf (o .found)) = ap (λ (n : ℕ). nextIn form s at n 0) f ∙ (fits-full ∙ ap extent (o .is)) in
-        let b : new ≡ sets old 0 d = p ∙ (ap (λ (x : Answer Extent). after x 0 (foundBytes (messageAt form s at)) old) a ∙ ap (λ (x : Answer Found). sets old 0 (foundBytes x)) (o .is)) in
-        ap (take len) (b ∙ put-front old d (omega (arith, o .stands .sized .most))) ∙ take-at d (drop (length d) old) len (o .length-is)
-
-    pub strict-refused : (k : ℕ) → reading true (o .found .message .datagram) ≡ refused k → strictAt form s at ≡ refused k
+    -- The datagram judged is the message judged.
+    pub strict-is : (a : Answer Extent) → a ≡ strictBefore (bodyBytes (bodyAt form s (length s) (full form) (at + 19))) next → a ≡ strictAt form s at
     unfolding strictAt
-    strict-refused k e = rw (o .is, e) refl
+    strict-is a e = rw (o .is, o .next-is) (e ∙ ap (λ (d : List ℕ). strictBefore d next) (whole-bytes form s at len next o))
 
-    pub strict-given : (p : Packet) → reading true (o .found .message .datagram) ≡ given p → strictAt form s at ≡ given (record { len = len; next = next })
-    unfolding strictAt
-    strict-given p e = rw (o .is, e) (ap given (whole-extent form s at len next o))
+    -- A datagram of one chunk stands in the stream in one piece.
+    module _ (one : len ≤ full form) where
+      bytes : List ℕ
+      bytes = bodyBytes (bodyAt form s (length s) (full form) (at + 19))
+
+      is-len : len ≡ length bytes
+      unfolding bytes
+      is-len = whole-length form s at len next o
+
+      least : len ≡ min (full form) (length bytes - 0)
+      least = omega (arith, is-len)
+
+      some : 0 < length bytes
+      some = omega (arith, is-len, o .length-is, o .stands .sized .least)
+
+      pub one-piece : part s (at + 19 + headSize form) len ≡ bodyBytes (bodyAt form s (length s) (full form) (at + 19))
+      unfolding bytes
+      one-piece = copy-part form s bytes [] 0 [] (at + 19) 0 0 (copy-start form s [] 0 (at + 19)) len some least ∙ take-all (full form) bytes (omega (arith, is-len))
+
+      pub one-inside : at + 19 + headSize form + len ≤ length s
+      unfolding bytes
+      one-inside = omega (arith, copy-inside form s bytes [] 0 [] (at + 19) 0 0 (copy-start form s [] 0 (at + 19)) len some least)
 
   -- A message that was accepted with its datagram.
   pub record Accepted (len next : ℕ) : Type 0 where

@@ -32,6 +32,10 @@ pub record NextMessage (form : Form) (s : List ℕ) (at : ℕ) (old : List ℕ) 
   pub answer : stepRead r ≡ nextIn form s at (length old) to
   pub output : new ≡ after (nextIn form s at (length old) to) to (foundBytes (messageAt form s at)) old
 
+-- A datagram whose message ends before a position, judged: its length, or what strict reading refuses.
+abbrev pub strictBefore : List ℕ → ℕ → Answer Extent
+strictBefore d next = onward (reading true d) (λ p. given (record { len = length d; next = next }))
+
 -- The message at a position, judged with its datagram: 19, then what strict reading refuses.
 unfoldable pub strictAt : Form → List ℕ → ℕ → Answer Extent
-strictAt form s at = onward (messageAt form s at) (λ m. onward (reading true (m .message .datagram)) (λ p. given (extentOf m)))
+strictAt form s at = onward (messageAt form s at) (λ m. strictBefore (m .message .datagram) (m .next))

@@ -16,16 +16,17 @@ use stream::judge_from;
 use stream::message_at;
 use stream::padding_of;
 ghost use mathlib.Core.Path.{_≡_};
-ghost use Prim.Native.Nat.{_<_};
+ghost use Prim.Native.Nat.{_<_, _≤_};
 ghost use lib.ListN.{length};
 ghost use lib.Seq.{sets};
+ghost use Rattle.packet.specs.Limits.{fullSize};
 ghost use Rattle.placing.specs.Put.{Puts};
 ghost use Rattle.refusal.specs.Answer.{refused, onward};
 ghost use Rattle.refusal.specs.Number.{numberOf};
 ghost use Rattle.stream.specs.Stream.{full, datagramsOf};
 ghost use Rattle.stream.specs.Messages.{bodyAt, messagesFrom, thawed};
 ghost use Rattle.stream.specs.Answers.{stepRead};
-ghost use Rattle.thawing.specs.Message.{NextMessage, bodyBytes, strictAt};
+ghost use Rattle.thawing.specs.Message.{NextMessage, bodyBytes, strictBefore, strictAt};
 ghost use Rattle.thawing.specs.Thawing.{strict, Strictly, Listing, entries, messagesIn, Thaws};
 
 // Reads a whole stream. For each message the list gets where its peer starts in the stream, where its datagram starts in the output
@@ -107,18 +108,43 @@ fn refused_from(form: Form, stream: &[u8], at: usize, why: Refusal) -> Refusal
 pub fn strict_at(form: Form, stream: &[u8], at: usize) -> Step
     ensures { λ r. ⌜ stepRead r ≡ strictAt form (now (stream .entry)) at ⌝ }
 {
-    let mut datagram = [0u8; FULL_SIZE];
-    match next_message(form, stream, at, &mut datagram, 0) {
+    match message_at(form, stream, at) {
         Step::Refused(e) => Step::Refused(e),
         Step::Message { len, next } => {
-            let read = from_bytes_strict(&datagram[..len]);
-            let outcome = read.outcome;
-            match outcome {
-                Outcome::Refused(e) => Step::Refused(e),
-                Outcome::Done => Step::Message { len, next },
+            if chunk_length(form, len) < len {
+                return strict_apart(form, stream, at + 19, len, next);
             }
+            let start = at + 19 + head_of(form);
+            let e = start + len;
+            let datagram = &stream[start..e];
+            strict_before(datagram, next)
         }
     }
+}
+
+// A datagram in one piece, judged where it stands.
+fn strict_before(datagram: &[u8], next: usize) -> Step
+    ensures { λ r. ⌜ stepRead r ≡ strictBefore (now (datagram .entry)) next ⌝ }
+{
+    let read = from_bytes_strict(datagram);
+    let outcome = read.outcome;
+    match outcome {
+        Outcome::Refused(e) => Step::Refused(e),
+        Outcome::Done => Step::Message {
+            len: datagram.len(),
+            next,
+        },
+    }
+}
+
+// A datagram of several chunks, which lie apart: it is copied together to be judged.
+fn strict_apart(form: Form, stream: &[u8], from: usize, len: usize, next: usize) -> Step
+    requires { ⌜ (len ≡ length (bodyBytes (bodyAt form (now stream) (length (now stream)) (full form) from))) × (len ≤ fullSize) ⌝ }
+    ensures { λ r. ⌜ stepRead r ≡ strictBefore (bodyBytes (bodyAt form (now (stream .entry)) (length (now (stream .entry))) (full form) from)) next ⌝ }
+{
+    let mut datagram = [0u8; FULL_SIZE];
+    let end = copy_chunks(form, stream, from, len, &mut datagram, 0);
+    strict_before(&datagram[..end], next)
 }
 
 // Lists the messages of a stream that was judged, and copies their datagrams.

@@ -11,10 +11,12 @@ use lib.Seq.{drop-cons}
 use borrow.Author.Tests.{le-leb, lt-leb, ne-eqb}
 use Rattle.ground.specs.Choice.{both, within}
 use Rattle.ground.specs.Table.{every}
+use Rattle.ground.proofs.Choice.{on}
 use Rattle.ground.proofs.Table.{at, both-left, both-right}
-use Rattle.rfc.specs.Text.{Range, tail}
-use Rattle.utf8.specs.Walk.{Lead, due, never, lead, textFrom, text}
-use Rattle.utf8.specs.Row.{dues}
+use Rattle.rfc.specs.Text.{Range, tail, rows, inRange}
+use Rattle.utf8.specs.Walk.{Lead, due, never, leadIn, lead, textFrom, text}
+use Rattle.utf8.specs.Row.{dues, ledBy, rowOf}
+use Rattle.utf8.specs.declared.Lead.{Lead as Code}
 
 -- Two lists of ranges are the same, and so what two bytes call for.
 abbrev sameRanges : List Range → List Range → Bool
@@ -57,6 +59,23 @@ row low high r t b l h =
     let e : low + (b - low) ≡ b = omega arith in
     let k : b - low < length {A = ℕ} (replicate (suc high - low) 0) = rw length-replicate (omega arith) in
     sym (rw e at (same-row (lead (low + (b - low))) r (at (λ k x. same (lead (low + k)) r) (replicate (suc high - low) 0) t (b - low) k)))
+
+-- A count and a first range tell a row's rest whole: its other bytes are UTF8-tail.
+AllTails : List (List Range) → Type 0
+AllTails [] = Unit {0}
+AllTails ([] ∷ more) = AllTails more
+AllTails ((r ∷ rest) ∷ more) = (rowOf (ledBy (due rest)) ≡ due rest) × AllTails more
+
+led-in : (more : List (List Range)) → AllTails more → (b : ℕ) → rowOf (ledBy (leadIn more b)) ≡ leadIn more b
+unfolding AllTails
+led-in [] t b = refl
+led-in ([] ∷ more) t b = led-in more t b
+led-in ((r ∷ rest) ∷ more) t b = on (λ (x : Lead). rowOf (ledBy x) ≡ x) (inRange r b) (λ _. t .0) (λ _. led-in more (t .1) b)
+
+-- So what the code says of a first byte is what the byte calls for.
+pub led : (b : ℕ) {r : Code} → r ≡ ledBy (lead b) → lead b ≡ rowOf r
+unfolding rows AllTails
+led b e = sym (led-in rows (refl, (refl, (refl, (refl, (refl, (refl, (refl, (refl, (refl, tt))))))))) b) ∙ ap rowOf (sym e)
 
 -- A text may end exactly where no byte is due.
 pub at-end : (count low high : ℕ) → textFrom (dues count low high) [] ≡ eqb count 0

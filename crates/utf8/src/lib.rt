@@ -1,7 +1,7 @@
 // UTF-8 text: the bytes are judged one by one, by the row of the grammar that a first byte has (RFC 3629, section 4).
 ghost use mathlib.Core.Path.{_≡_};
 ghost use Rattle.utf8.specs.Walk.{text, lead};
-ghost use Rattle.utf8.specs.Row.{rowOf};
+ghost use Rattle.utf8.specs.Row.{ledBy};
 
 // What the first byte of a character calls for: a count of further bytes, and the lowest and the highest that the next
 // of them may be; or it begins no character.
@@ -12,7 +12,7 @@ pub enum Lead {
 
 // What a byte calls for that begins a character.
 pub fn lead_of(b: u8) -> Lead
-    ensures { λ r. ⌜ rowOf r ≡ lead b ⌝ }
+    ensures { λ r. ⌜ r ≡ ledBy (lead b) ⌝ }
 {
     match b {
         0x00..=0x7F => Lead::Due(0, 0x80, 0xBF),

@@ -20,7 +20,8 @@ use Rattle.laying.specs.Laying.{laid, headLayout, laidHeader, LaysHeader, LaysP
 use Rattle.laying.proofs.Pieces.{layout-pieces}
 use Rattle.laying.proofs.Laid.{laid-room, head-length, header-laid, lays-put}
 use Rattle.writing.specs.Writing.{sent, bytesWritten}
-use Rattle.writing.proofs.Sizes.{range-exactly, message-length}
+use Rattle.judging.proofs.Ranges.{range-exactly}
+use Rattle.writing.proofs.Sizes.{message-length}
 use Rattle.writing.proofs.Options.{leftover, Putting, start}
 
 module _ (strict : Bool) (s : Stores) (p : Packet) (old : List ℕ) (e : badPacket (lengthsOf s) p ≡ false) (room : length (bytesWritten strict s p) ≤ length old) where

@@ -4,50 +4,30 @@ use mathlib.Core.Path.{_≡_, refl, _∙_}
 use mathlib.Core.Bool.{Bool, true, false}
 use mathlib.Core.List.{List, [], _∷_, map}
 use native.Mathlib.Omega.{arith}
-use lib.ListN.{length, drop, length-append, length-take, length-drop}
-use borrow.Author.Tests.{lt-ltb, le-ltb, le-leb}
-use Rattle.rfc.specs.Message.{Message, extensionOf, optionLayout, optionsLayout, payloadLayout, headerLayout, layout}
-use Rattle.ground.proofs.Choice.{on-lt, neither}
+use lib.ListN.{length, length-append}
+use borrow.Author.Tests.{lt-ltb}
+use Rattle.rfc.specs.Message.{Message, optionLayout, optionsLayout, payloadLayout, headerLayout, layout}
+use Rattle.ground.proofs.Choice.{neither}
 use Rattle.class.specs.declared.MessageClass.{MessageClass}
 use Rattle.class.specs.declared.MessageClass.the-variants.{Empty, Request, Response, Reserved}
-use Rattle.packet.specs.Packet.{Stores, storeOf, bytesIn, bytesOf, rangeOf, valueOf, recordsOf}
+use Rattle.packet.specs.Packet.{Stores, valueOf, recordsOf}
 use Rattle.packet.specs.Meaning.{optionOf, meaning}
-use Rattle.judging.specs.Judge.{lengthsOf, lengthIn, badValue, badValues, extensionSize, optionSize, optionsSize}
+use Rattle.judging.specs.Judge.{lengthsOf, lengthIn, badValue, badValues, optionSize, optionsSize}
 use Rattle.judging.specs.declared.Lengths.{Lengths}
 use Rattle.packet.specs.declared.Packet.{Packet}
-use Rattle.packet.specs.declared.Home.{Home}
-use Rattle.packet.specs.declared.Home.the-variants.{Datagram, Edits}
 use Rattle.packet.specs.declared.Range.{Range}
 use Rattle.packet.specs.declared.OptionRecord.{OptionRecord}
-use Rattle.judging.proofs.Good.{Good, value-inside}
-use Rattle.laying.proofs.Pieces.{option-length}
+use Rattle.judging.proofs.Good.{Good}
+use Rattle.judging.proofs.Ranges.{range-exactly, value-exactly}
+use Rattle.laying.proofs.Pieces.{extension-length, option-length}
 use Rattle.measuring.specs.Measuring.{sentPayload, markerSize, counted, writtenSize}
 use Rattle.writing.specs.Writing.{sent, bytesWritten}
 
--- The length of a home's store is the home's length.
-pub length-in : (s : Stores) (h : Home) → length (storeOf s h) ≡ lengthIn (lengthsOf s) h
-length-in s Datagram = refl
-length-in s Edits = refl
-
--- A range inside its store names as many bytes as it says.
-pub bytes-exactly : (s : List ℕ) (start len : ℕ) → start + len ≤ length s → length (bytesIn s start len) ≡ len
-unfolding bytesIn
-bytes-exactly s start len h = rw (le-leb (start + len) (length s) h) (omega (arith, length-take len (drop start s), length-drop start s))
-
-pub range-exactly : (s : Stores) (r : Range) → r .start + r .len ≤ lengthIn (lengthsOf s) (r .home) → length (bytesOf s r) ≡ r .len
-range-exactly s r h = bytes-exactly (storeOf s (r .home)) (r .start) (r .len) (rw (length-in s (r .home)) h)
-
--- The lengths of an extension, of an option of a good value, and of all of them, are those that are counted.
-pub extension-length : (n : ℕ) → length (extensionOf n) ≡ extensionSize n
-unfolding extensionOf extensionSize
-extension-length n =
-    on-lt (λ (l : List ℕ). length l ≡ extensionSize n) n 13 (λ h. simp (lt-ltb n 13 h))
-    (λ h. on-lt (λ (l : List ℕ). length l ≡ extensionSize n) n 269 (λ k. simp (le-ltb n 13 h, lt-ltb n 269 k)) (λ k. simp (le-ltb n 13 h, le-ltb n 269 k)))
-
+-- The lengths of an option of a good value, and of all of them, are those that are counted.
 pub option-exactly : (s : Stores) (before : ℕ) (r : OptionRecord) → badValue (lengthsOf s) r ≡ false → length (optionLayout before (optionOf s r)) ≡ optionSize before r
 unfolding optionSize
 option-exactly s before r e =
-    let n : length (valueOf s r) ≡ r .len = range-exactly s (rangeOf r) (value-inside (lengthsOf s) r e) in
+    let n : length (valueOf s r) ≡ r .len = value-exactly s r e in
     option-length before (optionOf s r) ∙ rw (n, extension-length, extension-length)
 
 pub options-exactly : (s : Stores) (before : ℕ) (rs : List OptionRecord) → badValues (lengthsOf s) rs ≡ false → length (optionsLayout before (map (optionOf s) rs)) ≡ optionsSize before rs

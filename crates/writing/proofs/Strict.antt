@@ -30,7 +30,8 @@ use Rattle.measuring.specs.declared.Limit.{Limit}
 use Rattle.measuring.proofs.Sizes.{measured-good}
 use Rattle.writing.specs.Writing.{writing, bytesWritten, Held}
 use Rattle.writing.proofs.Options.{bytes-at-most}
-use Rattle.writing.proofs.Sizes.{range-exactly, strict-counted}
+use Rattle.judging.proofs.Ranges.{range-exactly}
+use Rattle.writing.proofs.Sizes.{strict-counted}
 use Rattle.writing.proofs.Answers.{writing-measured}
 
 -- What strict mode asks besides: it is refused by none of 7, 2 and 8.

@@ -1,7 +1,8 @@
 -- `option_size`: of a short option, and of every other.
 use native.Mathlib.Omega.{arith}
 use mathlib.Core.Path.{sym, _∙_}
-use Rattle.laying.proofs.Pieces.{extension-small, both-short, short-size}
+use Rattle.judging.proofs.Good.{extension-small}
+use Rattle.laying.proofs.Pieces.{extension-length, both-short, short-size}
 use borrow.Author.Needs.{needs}
 use Rattle.laying.proofs.option_size.Statement.{statement}
 use Rattle.laying.proofs.option_size.Tie as tie
@@ -31,7 +32,7 @@ add-result-4 : tie.Need-add-result-4
 add-result-4 c = omega (arith, c .extension-size2 .ensures, c .before .extension-size .ensures, extension-small (c .before .before .before .before .args .delta), extension-small (c .before .before .before .before .args .len))
 
 returns-2 : tie.Need-returns-2
-returns-2 c = search needs
+returns-2 c = omega (arith, c .extension-size2 .ensures, c .before .extension-size .ensures, extension-length (c .before .before .before .before .args .delta), extension-length (c .before .before .before .before .args .len))
 
 pub option-size-spec : {M : Type 1} → statement M
 option-size-spec =

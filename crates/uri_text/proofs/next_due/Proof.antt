@@ -1,9 +1,9 @@
 -- `next_due` meets its contract: a byte of a character at a time.
-use mathlib.Core.Path.{refl, _∙_}
+use mathlib.Core.Path.{refl, sym, _∙_}
 use borrow.Author.Needs.{needs}
 use borrow.Author.Tests.{lt-leb, le-leb}
 use Rattle.utf8.specs.Walk.{textFrom}
-use Rattle.utf8.proofs.Utf8.{at-next}
+use Rattle.utf8.proofs.Utf8.{led, at-next}
 use Rattle.uri_text.proofs.next_due.Statement.{statement}
 use Rattle.uri_text.proofs.next_due.Tie as tie
 
@@ -12,7 +12,7 @@ lead-of-requires c κs = search needs
 
 returns : tie.Need-returns
 unfolding textFrom
-returns c = record { is = λ bs. rw (c .before .if1 .taken, c .lead-of .ensures) refl }
+returns c = record { is = λ bs. rw (c .before .if1 .taken, sym (led _ (c .lead-of .ensures))) refl }
 
 returns-2 : tie.Need-returns-2
 returns-2 c = record { is = λ bs. at-next _ _ _ _ bs (c .before .if1 .left) ∙ rw (lt-leb _ _ (c .if2 .taken)) refl }

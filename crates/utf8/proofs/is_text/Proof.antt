@@ -1,11 +1,11 @@
 -- `is_text` meets its contract: the whole is text exactly when what is left is, with the bytes that are due (`Judging`).
 use Prim.Native.Nat.{_-_}
-use mathlib.Core.Path.{sym, ap, _∙_}
+use mathlib.Core.Path.{ap, _∙_}
 use native.Mathlib.Omega.{arith}
 use lib.ListN.{length}
 use borrow.Author.Needs.{needs}
 use Rattle.utf8.specs.Row.{rowOf}
-use Rattle.utf8.proofs.Utf8.{Judging, judging-start, judging-end, first-byte, no-first-byte, next-byte, byte-below, byte-above}
+use Rattle.utf8.proofs.Utf8.{Judging, judging-start, judging-end, led, first-byte, no-first-byte, next-byte, byte-below, byte-above}
 use Rattle.utf8.proofs.is_text.Statement.{statement}
 use Rattle.utf8.proofs.is_text.Tie as tie
 
@@ -36,7 +36,7 @@ loop-less c = omega arith
 loop-again : tie.Need-loop-again Inv-loop μ-loop
 loop-again c =
     first-byte (omega arith) (c .before .before .before .before .before .before .before .loop .inv) _ _ _ (omega arith)
-    (sym (c .before .before .before .lead-of .ensures) ∙ ap rowOf (c .before .due .given .1))
+    (led _ (c .before .before .before .lead-of .ensures) ∙ ap rowOf (c .before .due .given .1))
 
 enum-told : tie.Need-enum-told Inv-loop μ-loop
 enum-told c = search needs
@@ -44,7 +44,7 @@ enum-told c = search needs
 returns : tie.Need-returns Inv-loop μ-loop
 returns c =
     no-first-byte (omega arith) (c .before .before .before .before .before .before .loop .inv) (omega arith)
-    (sym (c .before .before .lead-of .ensures) ∙ ap rowOf (c .enum-told .given .1))
+    (led _ (c .before .before .lead-of .ensures) ∙ ap rowOf (c .enum-told .given .1))
 
 returns-2 : tie.Need-returns-2 Inv-loop μ-loop
 returns-2 c = byte-below (omega arith) (c .before .before .before .before .loop .inv) (omega arith) (omega arith)

@@ -1,0 +1,25 @@
+-- Peers as text: read back as they were put.
+use Prim.Native.Nat.{ℕ}
+use mathlib.Core.Path.{_≡_, sym, ap, _∙_}
+use mathlib.Core.List.{List}
+use lib.ListN.{replicate}
+use Rattle.refusal.specs.Answer.{Answer, given, Beside, beside}
+use Rattle.refusal.specs.declared.Outcome.the-variants.{Done}
+use Rattle.refusal.proofs.Answers.{same-given}
+use Rattle.refusal.proofs.Distinct.{one-outcome}
+use Rattle.placing.proofs.Puts.{puts-front}
+use Rattle.peers.specs.Text.{peerText}
+use Rattle.peer_reading.specs.Reading.{peerIn}
+use Rattle.peer_reading.proofs.RoundTrip.{read-back}
+use Rattle.guarantees.specs.Peers.{IsPeer, PutThenRead, OnePeer}
+
+back : (p : List ℕ) → IsPeer p → peerIn (peerText p) ≡ given p
+back p i = read-back p (i .size) (i .bytes)
+
+pub put-then-read : PutThenRead
+put-then-read p i old n new room q r e =
+    let k = e ∙ ap (beside (replicate 18 0)) (ap peerIn (puts-front q room) ∙ back p i) in
+    (one-outcome (r .outcome) Done (ap (λ (x : Beside (List ℕ)). x .answer) k), ap (λ (x : Beside (List ℕ)). x .value) k)
+
+pub one-peer : OnePeer
+one-peer p q i j e = same-given (sym (back p i) ∙ (ap peerIn e ∙ back q j))
