@@ -1,17 +1,18 @@
 //! Times reading and writing of the same messages by the Rattle code and by coap-lite, and prints the ratio.
 //! A time is the least of many short runs, in nanoseconds for one call; a ratio under 1 is in favour of the Rattle code.
 
+mod messages;
+mod turns;
+
 use coap_lite::{MessageClass, MessageType, Packet};
+use messages::{content, get, message};
 use std::hint::black_box;
-use std::time::{Duration, Instant};
+use turns::least;
 
 /// The largest flat form: 11 numbers, and 4 for each of 128 options.
 const MOST_NUMBERS: usize = 11 + 4 * 128;
 /// The largest datagram that is read.
 const MOST_BYTES: usize = 70_000;
-/// How long one run takes, and how many there are of each side.
-const RUN: Duration = Duration::from_micros(500);
-const RUNS: usize = 100;
 
 // crates/ffi/src/lib.rt: a slice is a pointer and a length.
 extern "C" {
@@ -68,44 +69,6 @@ fn main() {
     }
     for payload in [0, 1 << 10, 4 << 10, 16 << 10, 64 << 10] {
         measure(&format!("{payload} of payload"), &message(0, payload));
-    }
-}
-
-/// A request for coap://example.com/sensors/temp.
-fn get() -> Vec<u8> {
-    let mut datagram = vec![0x44, 0x01, 0x12, 0x34, 0xDE, 0xAD, 0xBE, 0xEF];
-    let options: [(u16, &[u8]); 4] = [(3, b"example.com"), (11, b"sensors"), (11, b"temp"), (17, &[50])];
-    append(&mut datagram, &options, 0);
-    assert_eq!(datagram.len(), 35);
-    datagram
-}
-
-/// An answer with ETag, Content-Format and Max-Age.
-fn content() -> Vec<u8> {
-    let mut datagram = vec![0x64, 0x45, 0x12, 0x34, 0xDE, 0xAD, 0xBE, 0xEF];
-    let options: [(u16, &[u8]); 3] = [(4, b"etag1234"), (12, &[50]), (14, &[60])];
-    append(&mut datagram, &options, 1024);
-    datagram
-}
-
-/// A request with so many Uri-Path options of 8 bytes, and so many bytes of payload.
-fn message(options: usize, payload: usize) -> Vec<u8> {
-    let mut datagram = vec![0x44, 0x02, 0x12, 0x34, 0xDE, 0xAD, 0xBE, 0xEF];
-    append(&mut datagram, &vec![(11, &b"segments"[..]); options], payload);
-    datagram
-}
-
-/// Options with deltas and lengths up to 12, and a payload.
-fn append(datagram: &mut Vec<u8>, options: &[(u16, &[u8])], payload: usize) {
-    let mut before = 0;
-    for &(number, value) in options {
-        datagram.push(((number - before) * 16) as u8 + value.len() as u8);
-        datagram.extend_from_slice(value);
-        before = number;
-    }
-    if payload > 0 {
-        datagram.push(0xFF);
-        datagram.extend((0..payload).map(|i| (i * 7) as u8));
     }
 }
 
@@ -175,33 +138,4 @@ fn meaning(packet: &Packet) -> Meaning {
         options.extend(values.iter().map(|value| (number as u32, value.clone())));
     }
     (head, packet.get_token().to_vec(), options, packet.payload.clone())
-}
-
-/// The least time for one call of each side, over runs that take turns.
-fn least<A, B>(mut ours: impl FnMut() -> A, mut theirs: impl FnMut() -> B) -> (f64, f64) {
-    let calls = [fitting(&mut ours), fitting(&mut theirs)];
-    let mut best = [f64::MAX; 2];
-    for _ in 0..RUNS {
-        best[0] = best[0].min(time(&mut ours, calls[0]));
-        best[1] = best[1].min(time(&mut theirs, calls[1]));
-    }
-    (best[0], best[1])
-}
-
-/// How many calls make up a run.
-fn fitting<A>(call: &mut impl FnMut() -> A) -> u32 {
-    let mut calls = 1;
-    while time(call, calls) * (calls as f64) < RUN.as_nanos() as f64 {
-        calls *= 2;
-    }
-    calls
-}
-
-/// Nanoseconds for one of so many calls.
-fn time<A>(call: &mut impl FnMut() -> A, calls: u32) -> f64 {
-    let start = Instant::now();
-    for _ in 0..calls {
-        black_box(call());
-    }
-    start.elapsed().as_nanos() as f64 / calls as f64
 }

@@ -1,4 +1,4 @@
--- What was answered beside a packet, in the words of the promises: handed over as numbers, or written again.
+-- What was answered beside a packet, in the words of the promises: written again.
 use Prim.Native.Nat.{ℕ}
 use mathlib.Core.Path.{_≡_, ap, _∙_}
 use mathlib.Core.Bool.{Bool}
@@ -9,8 +9,6 @@ use Rattle.refusal.proofs.Answers.{answered-beside}
 use Rattle.packet.specs.Packet.{Stores, newPacket}
 use Rattle.packet.specs.declared.Packet.{Packet}
 use Rattle.writing.specs.Writing.{bytesWritten}
-use Rattle.flat.specs.Flat.{flat}
-use Rattle.ffi.specs.Handed.{handed, numberIn}
 use Rattle.ffi.specs.Copied.{packetOf, copying, lengthIn}
 
 module _ (a : Answer Packet) (b : Beside Packet) (e : b ≡ beside newPacket a) where
@@ -21,11 +19,6 @@ module _ (a : Answer Packet) (b : Beside Packet) (e : b ≡ beside newPacket a) 
   packet-is = ap (λ (x : Beside Packet). x .value) e
 
   module _ (old new : List ℕ) where
-    pub handed-over : (r : Answer (Unit {0})) → (r ≡ handed (length old) (answered b)) × (new ≡ after (handed (length old) (answered b)) 0 (flat (b .value)) old)
-        → (numberIn r ≡ numberIn (handed (length old) a)) × (new ≡ after (handed (length old) a) 0 (flat (packetOf a)) old)
-    handed-over r h =
-        (ap numberIn (h .0 ∙ (λ i. handed (length old) (answer-is i))), h .1 ∙ (λ i. after (handed (length old) (answer-is i)) 0 (flat (packet-is i)) old))
-
     pub copied : (r : Answer ℕ) (strict : Bool) (s : Stores) → (r ≡ copying strict (length old) s (answered b)) × (new ≡ after (copying strict (length old) s (answered b)) 0 (bytesWritten strict s (b .value)) old)
         → (lengthIn r ≡ lengthIn (copying strict (length old) s a)) × (new ≡ after (copying strict (length old) s a) 0 (bytesWritten strict s (packetOf a)) old)
     copied r strict s h =

@@ -1,3 +1,4 @@
 pub mod Answered
 pub mod Numbers
 pub mod ReadBack
+pub mod Again

@@ -4,23 +4,24 @@
 // for the edit store. What takes or gives the flat form has its version in its name, so that a caller of another version
 // does not link.
 use judging::Lengths;
-use reading::Decoded;
 use refusal::Outcome;
 use refusal::Refusal;
 use refusal::Written;
+use scanning::Extent;
 use unflat::Taken;
 use writing::Limit;
 ghost use mathlib.Core.Path.{_≡_};
 ghost use mathlib.Core.List.{[]};
-ghost use lib.ListN.{length};
-ghost use Rattle.refusal.specs.Answer.{written, outcome, after, answered};
+ghost use Prim.Native.Nat.{_≤_};
+ghost use lib.ListN.{length, take};
+ghost use Rattle.refusal.specs.Answer.{written, outcome, after, fitted, answered};
 ghost use Rattle.packet.specs.Packet.{stores};
-ghost use Rattle.reading.specs.Reading.{reading, decoded};
+ghost use Rattle.reading.specs.Reading.{reading};
 ghost use Rattle.writing.specs.Writing.{bytesWritten};
 ghost use Rattle.flat.specs.Flat.{flat};
 ghost use Rattle.unflat.specs.Unflat.{taken};
 ghost use Rattle.ffi.specs.Handed.{handed, numberIn};
-ghost use Rattle.ffi.specs.Copied.{packetOf, packetOver, copying, lengthIn};
+ghost use Rattle.ffi.specs.Copied.{packetOf, packetOver, copying, lengthIn, sentEnd};
 
 // The version of the flat form.
 #[no_mangle]
@@ -37,7 +38,7 @@ pub extern "C" fn rickwinter_v2_read(strict: bool, datagram: &[u8], out: &mut [u
     ensures { λ r. ⌜ r ≡ numberIn (handed (length (now (out .entry))) (reading strict (now (datagram .entry)))) ⌝ }
     ensures { λ r. ⌜ now (out .exit) ≡ after (handed (length (now (out .entry))) (reading strict (now (datagram .entry)))) 0 (flat (packetOf (reading strict (now (datagram .entry))))) (now (out .entry)) ⌝ }
 {
-    number_of(hand_over(reading::from_bytes_in(strict, datagram), out))
+    number_of(scanning::scan(strict, datagram, out))
 }
 
 // Writes the packet of a flat form, which may stand at the start of a longer slice, over its two stores and without a limit.
@@ -68,42 +69,46 @@ pub extern "C" fn rickwinter_copy(strict: bool, datagram: &[u8], out: &mut [u8])
     ensures { λ r. ⌜ r ≡ lengthIn (copying strict (length (now (out .entry))) (stores (now (datagram .entry)) []) (reading strict (now (datagram .entry)))) ⌝ }
     ensures { λ r. ⌜ now (out .exit) ≡ after (copying strict (length (now (out .entry))) (stores (now (datagram .entry)) []) (reading strict (now (datagram .entry)))) 0 (bytesWritten strict (stores (now (datagram .entry)) []) (packetOf (reading strict (now (datagram .entry))))) (now (out .entry)) ⌝ }
 {
-    let read = reading::from_bytes_in(strict, datagram);
-    length_or_refusal(copy_over(strict, read, datagram, out))
-}
-
-// What was read, handed over as numbers.
-fn hand_over(read: Decoded, out: &mut [u32]) -> Outcome
-    ensures { λ r. ⌜ outcome r ≡ handed (length (now (out .entry))) (answered (decoded read)) ⌝ }
-    ensures { λ r. ⌜ now (out .exit) ≡ after (handed (length (now (out .entry))) (answered (decoded read))) 0 (flat (read .packet)) (now (out .entry)) ⌝ }
-{
-    let how = read.outcome;
-    match how {
-        Outcome::Refused(e) => Outcome::Refused(e),
-        Outcome::Done => {
-            let packet = read.packet;
-            flat::put_flat(out, packet)
+    match scanning::judge(strict, datagram) {
+        Extent::Refused(e) => length_or_refusal(Written::Refused(e)),
+        Extent::Message {
+            count: _,
+            end,
+            payload,
+        } => {
+            let last = sent_end(datagram, end, payload);
+            length_or_refusal(put_front(out, datagram, last))
         }
     }
 }
 
-// What was read, written again, over the datagram and an edit store of no bytes.
-fn copy_over(strict: bool, read: Decoded, datagram: &[u8], out: &mut [u8]) -> Written
-    ensures { λ r. ⌜ written r ≡ copying strict (length (now (out .entry))) (stores (now (datagram .entry)) []) (answered (decoded read)) ⌝ }
-    ensures { λ r. ⌜ now (out .exit) ≡ after (copying strict (length (now (out .entry))) (stores (now (datagram .entry)) []) (answered (decoded read))) 0 (bytesWritten strict (stores (now (datagram .entry)) []) (read .packet)) (now (out .entry)) ⌝ }
+// Where what is written of a datagram ends: with its options where no payload is sent, since it is empty or that of code 0.
+fn sent_end(datagram: &[u8], end: usize, payload: usize) -> usize
+    requires { ⌜ 2 ≤ length (now datagram) ⌝ }
+    ensures { λ r. ⌜ r ≡ sentEnd (now (datagram .entry)) end payload ⌝ }
 {
-    let how = read.outcome;
-    match how {
-        Outcome::Refused(e) => Written::Refused(e),
-        Outcome::Done => {
-            let packet = read.packet;
-            let edits = &datagram[0..0];
-            writing::to_bytes_in(strict, Limit::Unlimited, packet, datagram, edits, out)
-        }
+    if datagram.len() <= payload {
+        return end;
     }
+    if datagram[1] == 0 {
+        return end;
+    }
+    datagram.len()
 }
 
-// What was taken out of numbers, written. It is no `copy_over`: where one function serves both, the packet is copied.
+// Puts the first bytes of a datagram at the start of the output.
+fn put_front(out: &mut [u8], datagram: &[u8], last: usize) -> Written
+    requires { ⌜ last ≤ length (now datagram) ⌝ }
+    ensures { λ r. ⌜ written r ≡ fitted (length (now (out .entry))) (take last (now (datagram .entry))) ⌝ }
+    ensures { λ r. ⌜ now (out .exit) ≡ after (fitted (length (now (out .entry))) (take last (now (datagram .entry)))) 0 (take last (now (datagram .entry))) (now (out .entry)) ⌝ }
+{
+    if out.len() < last {
+        return Written::Refused(Refusal::NoRoom);
+    }
+    Written::Length(placing::put_bytes(out, 0, &datagram[..last]))
+}
+
+// What was taken out of numbers, written.
 fn write_over<'a>(
     strict: bool,
     from: Taken,

@@ -2,10 +2,13 @@
 // the output is cut off.
 ghost use mathlib.Core.Path.{_≡_};
 ghost use mathlib.Core.List.{[], _∷_};
-ghost use Prim.Native.Nat.{_-_, min};
+ghost use Prim.Native.Nat.{_+_, _-_, _*_, _≤_, _<_, min};
 ghost use lib.ListN.{length};
 ghost use Rattle.rfc.specs.Uint.{uint};
-ghost use Rattle.placing.specs.Put.{Puts};
+ghost use Rattle.placing.specs.Put.{Puts, Put};
+
+// How many bytes a copy holds at a time.
+const PIECE: usize = 4096;
 
 // Puts one byte.
 pub fn put_byte(out: &mut [u8], at: usize, byte: u8) -> usize
@@ -31,15 +34,90 @@ fn fitting(size: usize, at: usize, count: usize) -> usize
     count
 }
 
-// Puts bytes as they are. The room is found before the loop, so that the loop is a plain copy.
+// Puts bytes as they are: the one copy of bytes that all crates use. The room is found first, so that what follows is plain.
 pub fn put_bytes(out: &mut [u8], at: usize, bytes: &[u8]) -> usize
     ensures { λ r. ⌜ Puts (now (out .entry)) at (now (bytes .entry)) r (now (out .exit)) ⌝ }
 {
     let count = fitting(out.len(), at, bytes.len());
+    if count <= 16 {
+        return put_few(out, at, &bytes[..count]);
+    }
+    put_many(out, at, &bytes[..count])
+}
+
+// At most 16 bytes: two pieces of one length, which may overlap, so that the compiler knows how long each is.
+fn put_few(out: &mut [u8], at: usize, bytes: &[u8]) -> usize
+    requires { ⌜ (length (now bytes) ≤ length (now out) - at) × (length (now bytes) ≤ 16) ⌝ }
+    ensures { λ r. ⌜ Put (now (out .entry)) at (now (bytes .entry)) r (now (out .exit)) ⌝ }
+{
+    if 8 <= bytes.len() {
+        return put_ends(out, at, bytes, 8);
+    }
+    if 4 <= bytes.len() {
+        return put_ends(out, at, bytes, 4);
+    }
+    if 2 <= bytes.len() {
+        return put_ends(out, at, bytes, 2);
+    }
+    if 1 <= bytes.len() {
+        return put_ends(out, at, bytes, 1);
+    }
+    at
+}
+
+// The first and the last bytes, so many of each that none is left out.
+fn put_ends(out: &mut [u8], at: usize, bytes: &[u8], half: usize) -> usize
+    requires { ⌜ (length (now bytes) ≤ length (now out) - at) × (half ≤ length (now bytes)) × (length (now bytes) ≤ 2 * half) × (half ≤ 8) × (1 ≤ half) ⌝ }
+    ensures { λ r. ⌜ Put (now (out .entry)) at (now (bytes .entry)) r (now (out .exit)) ⌝ }
+{
+    let last = bytes.len() - half;
+    put_piece(out, at, &bytes[..half]);
+    put_piece(out, at + last, &bytes[last..])
+}
+
+// Any number of bytes, in pieces.
+fn put_many(out: &mut [u8], at: usize, bytes: &[u8]) -> usize
+    requires { ⌜ length (now bytes) ≤ length (now out) - at ⌝ }
+    ensures { λ r. ⌜ Put (now (out .entry)) at (now (bytes .entry)) r (now (out .exit)) ⌝ }
+{
+    let all = bytes.len();
+    let mut i = 0;
+    while i < all {
+        let end = piece_end(i, all);
+        put_piece(out, at + i, &bytes[i..end]);
+        i = end;
+    }
+    at + all
+}
+
+// Where a piece ends that starts here.
+fn piece_end(start: usize, count: usize) -> usize
+    requires { ⌜ start < count ⌝ }
+    ensures { λ r. ⌜ (start < r) × (r ≤ count) × (r ≤ start + 4096) ⌝ }
+{
+    if count - start <= PIECE {
+        return count;
+    }
+    start + PIECE
+}
+
+// A copy by way of an array of this function's own: all bytes are read before the first is written, so that the compiler needs
+// no test for overlap, and makes one move of memory of both loops and the array.
+fn put_piece(out: &mut [u8], at: usize, bytes: &[u8]) -> usize
+    requires { ⌜ (at + length (now bytes) ≤ length (now out)) × (length (now bytes) ≤ 4096) ⌝ }
+    ensures { λ r. ⌜ Put (now (out .entry)) at (now (bytes .entry)) r (now (out .exit)) ⌝ }
+{
+    let count = bytes.len();
+    let mut held = [0u8; PIECE];
     let mut i = 0;
     while i < count {
-        out[at + i] = bytes[i];
+        held[i] = bytes[i];
         i = i + 1;
+    }
+    let mut j = 0;
+    while j < count {
+        out[at + j] = held[j];
+        j = j + 1;
     }
     at + count
 }

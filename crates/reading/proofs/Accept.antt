@@ -44,6 +44,11 @@ meant s raw t =
       payload = bytesIn s (t .payload) (length s - t .payload);
     }
 
+-- A message with no payload.
+abbrev pub unpaid : Message → Message
+unpaid m =
+    record { version = m .version; type = m .type; code = m .code; id = m .id; token = m .token; options = m .options; payload = [] }
+
 pub is-meant : (s edits : List ℕ) (raw : HeaderRaw) (t : Tail) → InDatagram (t .records) → meaning (stores s edits) (packetOf s raw t) ≡ meant s raw t
 unfolding meant packetOf headerOf
 is-meant s edits raw t homes =
@@ -122,6 +127,21 @@ module _ (strict : Bool) (s : List ℕ) (b : Bytes s) (p : Packet) (k : Taken st
       rw (payload-layout s (t .marked) (t .payload) (found .inside) (found .unmarked), ← found .bytes)
       (sym (inside-split s 4 (tokenOf (k .raw)) (k .token-inside))) in
       rw (head-laid, append-assoc (take 4 s) (token ++ (os ++ payload)) (marks (bare s t) []), append-assoc token (os ++ payload) (marks (bare s t) []), append-assoc os payload (marks (bare s t) []), body) (take-append-drop 4 s)
+
+  head-unpaid : headerLayout (unpaid (meant s (k .raw) (k .tail))) ≡ take 4 s
+  unfolding headerLayout meant
+  head-unpaid = head-laid
+
+  -- Without its payload it is laid out as what stands before the end of its options.
+  pub laid-before : layout (unpaid (meant s (k .raw) (k .tail))) ++ marks (k .tail .marked) (drop (k .tail .payload) s) ≡ s
+  unfolding layout meant
+  laid-before =
+      let t = k .tail in
+      let token = bytesIn s 4 (tokenOf (k .raw)) in
+      let os = optionsLayout 0 (map (optionIn s) (t .records)) in
+      let rest = marks (t .marked) (drop (t .payload) s) in
+      let body : token ++ ((os ++ []) ++ rest) ≡ drop 4 s = rw (append-nil os, ← found .bytes) (sym (inside-split s 4 (tokenOf (k .raw)) (k .token-inside))) in
+      rw (head-unpaid, append-assoc (take 4 s) (token ++ (os ++ [])) rest, append-assoc token (os ++ []) rest, body) (take-append-drop 4 s)
 
 -- What strict accepts besides.
 module _ (s : List ℕ) (b : Bytes s) (p : Packet) (k : Taken true s p) where

@@ -6,3 +6,4 @@ pub mod Complete
 pub mod Kept
 pub mod Longest
 pub mod Modes
+pub mod Headed

@@ -22,11 +22,11 @@ abbrev pub ahead : List OptionRecord → Answer Tail → Answer Tail
 ahead rs (given t) = given (record { records = rs ++ t .records; marked = t .marked; payload = t .payload })
 ahead rs (refused k) = refused k
 
-ahead-none : (a : Answer Tail) → a ≡ ahead [] a
+pub ahead-none : (a : Answer Tail) → a ≡ ahead [] a
 ahead-none (given t) = refl
 ahead-none (refused k) = refl
 
-ahead-before : (rs : List OptionRecord) (r : OptionRecord) (a : Answer Tail) → ahead rs (onward a (before r)) ≡ ahead (rs ++ (r ∷ [])) a
+pub ahead-before : (rs : List OptionRecord) (r : OptionRecord) (a : Answer Tail) → ahead rs (onward a (before r)) ≡ ahead (rs ++ (r ∷ [])) a
 ahead-before rs r (given t) =
     ap (λ (l : List OptionRecord). given (record { records = l; marked = t .marked; payload = t .payload })) (sym (append-assoc rs (r ∷ []) (t .records)))
 ahead-before rs r (refused k) = refl
@@ -44,7 +44,7 @@ module _ (longest : ℕ) (s : List ℕ) where
   options-ended zero number at marked payload e = rw e
   options-ended (suc room) number at marked payload e = rw e
 
-  options-full : (number at : ℕ) (r : OptionRecord) → placeAt longest s number at ≡ given (option r) → options longest s zero number at ≡ refused 6
+  pub options-full : (number at : ℕ) (r : OptionRecord) → placeAt longest s number at ≡ given (option r) → options longest s zero number at ≡ refused 6
   unfolding options
   options-full number at r e = rw e
 

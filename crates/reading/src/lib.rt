@@ -23,9 +23,9 @@ ghost use lib.ListN.{length};
 ghost use Rattle.refusal.specs.Answer.{refused, beside};
 ghost use Rattle.refusal.specs.Number.{numberOf};
 ghost use Rattle.header.specs.Header.{rawRead, headerOf, tokenOf};
-ghost use Rattle.reading.specs.Answers.{Opened};
+ghost use Rattle.reading.specs.Headed.{goodHeader, headed};
 ghost use Rattle.packet.specs.Packet.{inDatagram, newPacket};
-ghost use Rattle.reading.specs.Reading.{decoded, FromBytes, reading, longest, afterHeader};
+ghost use Rattle.reading.specs.Reading.{decoded, FromBytes, longest};
 
 // What reading answers. The packet of a refused datagram is the new packet.
 pub struct Decoded {
@@ -130,8 +130,8 @@ fn refused(e: Refusal) -> Decoded
 }
 
 // The header of a datagram that is refused for nothing before its options.
-fn opening(strict: bool, buf: &[u8]) -> RawRead
-    ensures { λ r. ⌜ Opened strict (now (buf .entry)) (reading strict (now (buf .entry))) (rawRead r) ⌝ }
+pub fn opening(strict: bool, buf: &[u8]) -> RawRead
+    ensures { λ r. ⌜ rawRead r ≡ headed strict (now (buf .entry)) ⌝ }
 {
     if MAX_STORE < buf.len() {
         return RawRead::Refused(Refusal::TooLong);
@@ -144,8 +144,7 @@ fn opening(strict: bool, buf: &[u8]) -> RawRead
 
 // Version, token and emptiness.
 fn after_header(strict: bool, buf: &[u8], raw: HeaderRaw) -> RawRead
-    requires { ⌜ length (now buf) ≤ 70000 ⌝ }
-    ensures { λ r. ⌜ Opened strict (now (buf .entry)) (afterHeader strict (now (buf .entry)) raw) (rawRead r) ⌝ }
+    ensures { λ r. ⌜ rawRead r ≡ goodHeader strict (now (buf .entry)) raw ⌝ }
 {
     let token_length = raw.token_length() as usize;
     if wrong_version(strict, raw.version()) {
@@ -183,7 +182,7 @@ fn empty_carries(strict: bool, code: u8, len: usize, token_length: usize) -> boo
 }
 
 // A marker that ends the datagram marks no payload.
-fn marker_alone(strict: bool, marked: bool, payload: usize, len: usize) -> bool
+pub fn marker_alone(strict: bool, marked: bool, payload: usize, len: usize) -> bool
     ensures { λ r. ⌜ r ≡ both strict (both marked (eqb payload len)) ⌝ }
 {
     if !strict {
@@ -193,7 +192,7 @@ fn marker_alone(strict: bool, marked: bool, payload: usize, len: usize) -> bool
 }
 
 // The longest value of an option.
-fn longest_value(strict: bool) -> usize
+pub fn longest_value(strict: bool) -> usize
     ensures { λ r. ⌜ r ≡ longest strict ⌝ }
 {
     if strict {

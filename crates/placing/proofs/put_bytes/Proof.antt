@@ -1,72 +1,58 @@
--- `put_bytes` meets its contract: the first bytes stand in the output, one more with each turn.
-use Prim.Native.Nat.{_-_, _<_, _≤_}
-use mathlib.Core.Path.{_≡_, refl}
+-- `put_bytes`: what fits of the bytes is put whole.
+use mathlib.Core.Path.{_≡_, sym}
 use native.Mathlib.Omega.{arith}
-use lib.ListN.{length, take, length-set}
-use lib.Seq.{sets}
-use Rattle.placing.proofs.Copy.{copied-more, copied-all}
+use lib.ListN.{length, take}
+use lib.Seq.{length-take-le}
+use Rattle.placing.proofs.Copy.{put-fitting}
+use Rattle.placing.proofs.Puts.{put-length}
 use Rattle.placing.proofs.put_bytes.Statement.{statement}
 use Rattle.placing.proofs.put_bytes.Tie as tie
 
-abbrev Inv-loop : tie.InvT-loop
-Inv-loop out₀ at bytes count i₀ out i = (i ≤ count) × (length out ≡ length out₀) × (out ≡ sets out₀ at (take i bytes))
+-- What fits has the length that was found.
+size : (c : tie.After-fitting) → length (take (c .fitting .result) (c .before .before .before .args .bytes .now)) ≡ c .fitting .result
+size c = length-take-le (c .fitting .result) (c .before .before .before .args .bytes .now) (omega (arith, c .fitting .ensures))
 
-abbrev μ-loop : tie.MeasureT-loop
-μ-loop out₀ at bytes count i₀ out i = count - i
-
-fitting-requires : tie.Need-fitting-requires Inv-loop μ-loop
+fitting-requires : tie.Need-fitting-requires
 fitting-requires c κs = tt
 
-loop-holds : tie.Need-loop-holds Inv-loop μ-loop
-loop-holds c = (omega arith, refl, refl)
+slice-aggregate-put-few : tie.Need-slice-aggregate-put-few
+slice-aggregate-put-few c = sym (size (c .before .before .before))
 
-shared-slice-read-out : tie.Need-shared-slice-read-out Inv-loop μ-loop
-shared-slice-read-out c = omega arith
+put-few-requires : tie.Need-put-few-requires
+put-few-requires c κs =
+    let f = c .before .before .before in
+    (omega (arith, size f, f .fitting .ensures), omega (arith, size f))
 
-add-out : tie.Need-add-out Inv-loop μ-loop
-add-out c = omega arith
+same-length : tie.Need-same-length
+same-length c = put-length _ _ _ _ _ (c .before .before .put-few .ensures)
 
-slice-write-out : tie.Need-slice-write-out Inv-loop μ-loop
-slice-write-out c = omega arith
+returns : tie.Need-returns
+returns c = put-fitting _ _ _ _ _ _ (c .before .before .before .before .before .before .fitting .ensures) (c .before .before .put-few .ensures)
 
-add-i : tie.Need-add-i Inv-loop μ-loop
-add-i c = omega arith
+slice-aggregate-put-many : tie.Need-slice-aggregate-put-many
+slice-aggregate-put-many c = sym (size (c .before .before .before))
 
-loop-less : tie.Need-loop-less Inv-loop μ-loop
-loop-less c = omega arith
+put-many-requires : tie.Need-put-many-requires
+put-many-requires c κs =
+    let f = c .before .before .before in
+    omega (arith, size f, f .fitting .ensures)
 
-loop-again : tie.Need-loop-again Inv-loop μ-loop
-loop-again c =
-    let s = c .before .before in
-    let bytes = s .before .before .before .before .args .bytes .now in
-    let h : s .loop .i < length bytes = omega arith in
-    (omega arith, simp length-set (s .loop .inv .1), rw (s .loop .inv .2) (copied-more _ _ bytes (s .loop .i) h))
+same-length-2 : tie.Need-same-length-2
+same-length-2 c = put-length _ _ _ _ _ (c .before .before .put-many .ensures)
 
-add-result : tie.Need-add-result Inv-loop μ-loop
-add-result c = omega arith
-
-same-length : tie.Need-same-length Inv-loop μ-loop
-same-length c = c .before .loop .inv .1
-
-returns : tie.Need-returns Inv-loop μ-loop
-returns c =
-    let all : c .before .loop .i ≡ c .before .before .fitting .result = omega arith in
-    copied-all _ _ _ _ _ (c .before .before .fitting .ensures) (rw all at (c .before .loop .inv .2))
+returns-2 : tie.Need-returns-2
+returns-2 c = put-fitting _ _ _ _ _ _ (c .before .before .before .before .before .before .fitting .ensures) (c .before .before .put-many .ensures)
 
 pub put-bytes-spec : {M : Type 1} → statement M
 put-bytes-spec =
     tie.close
     (tie.spec
-    Inv-loop
-    μ-loop
     fitting-requires
-    loop-holds
-    shared-slice-read-out
-    add-out
-    slice-write-out
-    add-i
-    loop-less
-    loop-again
-    add-result
+    slice-aggregate-put-few
+    put-few-requires
     same-length
-    returns)
+    returns
+    slice-aggregate-put-many
+    put-many-requires
+    same-length-2
+    returns-2)

@@ -2,7 +2,7 @@
 use mathlib.Core.Path.{sym, _∙_}
 use borrow.Author.Needs.{needs}
 use borrow.Author.Tests.{lt-ltb, le-ltb}
-use Rattle.reading.specs.Reading.{afterHeader}
+use Rattle.reading.specs.Headed.{goodHeader}
 use Rattle.reading.proofs.after_header.Statement.{statement}
 use Rattle.reading.proofs.after_header.Tie as tie
 
@@ -19,49 +19,34 @@ wrong-version-requires : tie.Need-wrong-version-requires
 wrong-version-requires c κs = search needs
 
 returns : tie.Need-returns
-unfolding afterHeader
-returns c = record { is = rw (sym (c .before .before .before .token-length .ensures), sym (c .before .before .version .ensures), sym (c .before .wrong-version .ensures) ∙ c .if1 .taken); roomy = tt }
+unfolding goodHeader
+returns c = rw (sym (c .before .before .before .token-length .ensures), sym (c .before .before .version .ensures), sym (c .before .wrong-version .ensures) ∙ c .if1 .taken)
 
 returns-2 : tie.Need-returns-2
-unfolding afterHeader
+unfolding goodHeader
 returns-2 c =
-    record {
-      is = rw (sym (c .before .before .before .before .token-length .ensures), sym (c .before .before .before .version .ensures), sym (c .before .before .wrong-version .ensures) ∙ c .before .if1 .left, lt-ltb _ _ (c .if2 .taken));
-      roomy = tt;
-    }
+    rw (sym (c .before .before .before .before .token-length .ensures), sym (c .before .before .before .version .ensures), sym (c .before .before .wrong-version .ensures) ∙ c .before .if1 .left, lt-ltb _ _ (c .if2 .taken))
 
 add-if3 : tie.Need-add-if3
 add-if3 c = search needs
 
 returns-3 : tie.Need-returns-3
-unfolding afterHeader
+unfolding goodHeader
 returns-3 c =
-    record {
-      is =
-          rw (sym (c .before .before .before .before .before .token-length .ensures), sym (c .before .before .before .before .version .ensures), sym (c .before .before .before .wrong-version .ensures) ∙ c .before .before .if1 .left, le-ltb _ _ (c .before .if2 .left), lt-ltb _ _ (c .if3 .taken));
-      roomy = tt;
-    }
+    rw (sym (c .before .before .before .before .before .token-length .ensures), sym (c .before .before .before .before .version .ensures), sym (c .before .before .before .wrong-version .ensures) ∙ c .before .before .if1 .left, le-ltb _ _ (c .before .if2 .left), lt-ltb _ _ (c .if3 .taken))
 
 empty-carries-requires : tie.Need-empty-carries-requires
 empty-carries-requires c κs = search needs
 
 returns-4 : tie.Need-returns-4
-unfolding afterHeader
+unfolding goodHeader
 returns-4 c =
-    record {
-      is =
-          rw (sym (c .before .before .before .before .before .before .before .token-length .ensures), sym (c .before .before .before .before .before .before .version .ensures), sym (c .before .before .before .before .before .wrong-version .ensures) ∙ c .before .before .before .before .if1 .left, le-ltb _ _ (c .before .before .before .if2 .left), le-ltb _ _ (c .before .before .if3 .left), sym (c .before .empty-carries .ensures) ∙ c .if4 .taken);
-      roomy = tt;
-    }
+    rw (sym (c .before .before .before .before .before .before .before .token-length .ensures), sym (c .before .before .before .before .before .before .version .ensures), sym (c .before .before .before .before .before .wrong-version .ensures) ∙ c .before .before .before .before .if1 .left, le-ltb _ _ (c .before .before .before .if2 .left), le-ltb _ _ (c .before .before .if3 .left), sym (c .before .empty-carries .ensures) ∙ c .if4 .taken)
 
 returns-5 : tie.Need-returns-5
-unfolding afterHeader
+unfolding goodHeader
 returns-5 c =
-    record {
-      is =
-          rw (sym (c .before .before .before .before .before .before .before .token-length .ensures), sym (c .before .before .before .before .before .before .version .ensures), sym (c .before .before .before .before .before .wrong-version .ensures) ∙ c .before .before .before .before .if1 .left, le-ltb _ _ (c .before .before .before .if2 .left), le-ltb _ _ (c .before .before .if3 .left), sym (c .before .empty-carries .ensures) ∙ c .if4 .left);
-      roomy = search needs;
-    }
+    rw (sym (c .before .before .before .before .before .before .before .token-length .ensures), sym (c .before .before .before .before .before .before .version .ensures), sym (c .before .before .before .before .before .wrong-version .ensures) ∙ c .before .before .before .before .if1 .left, le-ltb _ _ (c .before .before .before .if2 .left), le-ltb _ _ (c .before .before .if3 .left), sym (c .before .empty-carries .ensures) ∙ c .if4 .left)
 
 pub after-header-spec : {M : Type 1} → statement M
 after-header-spec =

@@ -10,7 +10,7 @@ use Rattle.refusal.specs.Answer.{Answer, given, onward, beside}
 use Rattle.header.specs.Header.{rawRead, tokenOf}
 use Rattle.packet.specs.declared.Packet.{Packet}
 use Rattle.option_reading.specs.Answers.{foundOf}
-use Rattle.reading.specs.Answers.{Opened}
+use Rattle.reading.proofs.Headed.{Opened, headed-opens}
 use Rattle.option_reading.specs.Option.{Place, placeAt, placed}
 use Rattle.reading.specs.Options.{Tail, options}
 use Rattle.packet.specs.Packet.{newPacket}
@@ -31,7 +31,7 @@ abbrev μ-loop : tie.MeasureT-loop
 opened : (c : tie.After-raw Inv-loop μ-loop) → Opened (c .before .before .before .before .args .strict) (now (c .before .before .before .before .args .buf)) (reading (c .before .before .before .before .args .strict) (now (c .before .before .before .before .args .buf))) (given (c .raw .given .0 .0))
 opened c =
     let a = c .before .before .before .before .args in
-    subst (Opened (a .strict) (now (a .buf)) (reading (a .strict) (now (a .buf)))) (ap rawRead (c .raw .given .1)) (c .before .before .opening .ensures)
+    subst (Opened (a .strict) (now (a .buf)) (reading (a .strict) (now (a .buf)))) (sym (c .before .before .opening .ensures) ∙ ap rawRead (c .raw .given .1)) (headed-opens (a .strict) (now (a .buf)))
 
 -- Where the options' answer is known, so is the whole one.
 answer-is : (c : tie.After-place-at Inv-loop μ-loop) (a : Answer Tail)
@@ -73,7 +73,7 @@ returns : tie.Need-returns Inv-loop μ-loop
 returns c =
     let o = c .before .before .before .before in
     let a = o .before .before .args in
-    let h = subst (Opened (a .strict) (now (a .buf)) (reading (a .strict) (now (a .buf)))) (ap rawRead (c .before .before .e .given .1)) (o .opening .ensures) in
+    let h = subst (Opened (a .strict) (now (a .buf)) (reading (a .strict) (now (a .buf)))) (sym (o .opening .ensures) ∙ ap rawRead (c .before .before .e .given .1)) (headed-opens (a .strict) (now (a .buf))) in
     c .refused .ensures ∙ ap (beside newPacket) (sym (h .is))
 
 enum-known-raw : tie.Need-enum-known-raw Inv-loop μ-loop

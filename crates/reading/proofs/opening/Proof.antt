@@ -3,13 +3,13 @@ use mathlib.Core.Path.{sym, ap, _∙_}
 use borrow.Author.Needs.{needs}
 use borrow.Author.Tests.{lt-ltb, le-ltb}
 use Rattle.header.specs.Header.{rawRead}
-use Rattle.reading.specs.Reading.{reading}
+use Rattle.reading.specs.Headed.{headed}
 use Rattle.reading.proofs.opening.Statement.{statement}
 use Rattle.reading.proofs.opening.Tie as tie
 
 returns : tie.Need-returns
-unfolding reading
-returns c = record { is = rw (lt-ltb _ _ (c .if1 .taken)); roomy = tt }
+unfolding headed
+returns c = rw (lt-ltb _ _ (c .if1 .taken))
 
 try-from-requires : tie.Need-try-from-requires
 try-from-requires c κs = search needs
@@ -24,22 +24,14 @@ after-header-requires : tie.Need-after-header-requires
 after-header-requires c κs = search needs
 
 returns-2 : tie.Need-returns-2
-unfolding reading
-returns-2 c =
-    record {
-      is = rw (le-ltb _ _ (c .before .before .before .before .if1 .left), sym (c .before .before .before .try-from .ensures) ∙ ap rawRead (c .before .e .given .1));
-      roomy = tt;
-    }
+unfolding headed
+returns-2 c = rw (le-ltb _ _ (c .before .before .before .before .if1 .left), sym (c .before .before .before .try-from .ensures) ∙ ap rawRead (c .before .e .given .1))
 
 returns-3 : tie.Need-returns-3
-unfolding reading
+unfolding headed
 returns-3 c =
     let t = c .before .before .before .before in
-    let o = c .after-header .ensures in
-    record {
-      is = rw (le-ltb _ _ (t .before .if1 .left), sym (t .try-from .ensures) ∙ ap rawRead (c .before .before .raw .given .1)) (o .is);
-      roomy = o .roomy;
-    }
+    rw (le-ltb _ _ (t .before .if1 .left), sym (t .try-from .ensures) ∙ ap rawRead (c .before .before .raw .given .1)) (c .after-header .ensures)
 
 pub opening-spec : {M : Type 1} → statement M
 opening-spec =
