@@ -1,4 +1,4 @@
-//! Compaction of a packet into its edit store: requests [5] and [9] of "02", the list of change requests.
+//! Compaction of a packet into its edit store: docs/RULES.md, Compaction.
 
 use crate::raw::{filled, Home, Range, Raw, Record};
 use crate::strict_answers::{demand, Judged};

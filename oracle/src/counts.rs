@@ -26,8 +26,8 @@ fn put_after_number(request: &[u8], answer: &str) -> Option<String> {
     Some(format!("{answer} zeros {}", uints::read(8, &value).ok()?.zeros))
 }
 
-/// Behind the content format and Observe. 02, [7]: the first record decides; none that is absent or over-long has zeros, and
-/// a refusal carries no count.
+/// Behind the content format and Observe. Rules, Uints and text: the first record decides; none that is absent or over-long
+/// has zeros, and a refusal carries no count.
 fn put_into_packet(answer: &str) -> Option<String> {
     let (packet, rest) = answer.split_once(" format ")?;
     let (format, rest) = rest.split_once(" observe ")?;

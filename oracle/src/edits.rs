@@ -1,4 +1,4 @@
-//! Edits of raw packets, in the order of "01", the scope of work, Header and editing: 10 where a store is lent, 11, 6, 12.
+//! Edits of raw packets, by docs/RULES.md, Edits, in the order of docs/REFUSALS.md: 10 where a store is lent, 11, 6, 12.
 
 use crate::raw::{filled, range, Home, Range, Raw, Record, LONGEST_TOKEN, MOST_OPTIONS};
 use crate::strict_answers::{demand, Judged, MOST_BYTES};

@@ -1,4 +1,4 @@
-//! Messages as frames on TCP, and back: request [8] of "02", the list of change requests. A section is one of RFC 8323.
+//! Messages as frames on TCP, and back: docs/RULES.md, Frames. A section is one of RFC 8323.
 
 use crate::strict_answers::{demand, read, written, Judged, MOST_BYTES};
 use crate::words::{Words, MOST_ROOM};

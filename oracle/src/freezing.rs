@@ -1,4 +1,4 @@
-//! Streams of frozen messages, written, read and converted: requests [1] and [10] of "02", the list of change requests.
+//! Streams of frozen messages, written, read and converted: docs/RULES.md, Freeze streams.
 
 use crate::plans::listed;
 use crate::raw::Raw;

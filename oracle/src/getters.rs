@@ -1,4 +1,4 @@
-//! What the getters say of a raw packet. They refuse nothing. "01" is the scope of work, and "02" the list of change requests.
+//! What the getters say of a raw packet. They refuse nothing. "Rules" is docs/RULES.md.
 
 use crate::raw::Raw;
 use crate::uints;
@@ -29,8 +29,8 @@ fn asked(raw: &Raw, number: u16) -> String {
     format!("{number}:{}:{}:{first}", yes(!values.is_empty()), values.len())
 }
 
-/// 01, Header and editing: the first decides; one that is absent, over-long or not listed reads as none. 02, [7]: the count of
-/// zeros stands beside one that isn't listed too.
+/// Rules, Edits: the first decides; one that is absent, over-long or not listed reads as none. Rules, Uints and text: the
+/// count of zeros stands beside one that isn't listed too.
 fn format(raw: &Raw) -> String {
     let Some(Ok(uint)) = values(raw, CONTENT_FORMAT).first().map(|value| uints::read(2, value)) else {
         return "none zeros 0".into();

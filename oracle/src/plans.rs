@@ -1,4 +1,4 @@
-//! Plans of the rest of an image, made and checked: request [13] of "02", the list of change requests.
+//! Plans of the rest of an image, made and checked: docs/RULES.md, Image plans.
 
 use crate::strict_answers::{demand, Judged};
 use crate::words::{or_none, Words, MOST_VALUES};

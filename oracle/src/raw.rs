@@ -1,11 +1,11 @@
-//! Packets whose ranges are in two stores, made as a request says: nothing holds a range to its store. Request [9] of "02",
-//! the list of change requests, has the two stores, and "01" is the scope of work.
+//! Packets whose ranges are in two stores, made as a request says: nothing holds a range to its store. "Rules"
+//! is docs/RULES.md.
 
 use crate::strict_answers::{demand, Judged, MOST_BYTES};
 use crate::words::{bytes, class_word, hex, kind_number, number, or_none, Parts, Words};
 use coap_lite::{MessageClass, MessageType};
 
-/// 01, What a packet is here: the most options.
+/// Rules, Packets: the most options.
 pub const MOST_OPTIONS: usize = 128;
 /// RFC 7252 3.1: an extension of two bytes is at most 65535 and stands for 269 more.
 const LONGEST_VALUE: u64 = 65_535 + 269;
@@ -178,17 +178,17 @@ impl Raw {
         self.stores[range.home as usize].get(range.start as usize..(range.start + range.length) as usize)
     }
 
-    /// 01: a range outside its home gives an empty part.
+    /// Rules, Packets: a range outside its home gives an empty part.
     pub fn part(&self, range: Range) -> &[u8] {
         self.inside(range).unwrap_or_default()
     }
 
-    /// 01: getters read a count over 128 as 128.
+    /// Rules, Packets: getters read a count over 128 as 128.
     pub fn counted(&self) -> &[Record] {
         &self.records[..self.count.min(MOST_OPTIONS as u64) as usize]
     }
 
-    /// 01: what a packet means, as the getters tell it.
+    /// Rules, Packets: what a packet means, as the getters tell it.
     pub fn meaning(&self) -> Parts {
         Parts {
             version: self.version,
@@ -207,7 +207,7 @@ impl Raw {
         [self.token].into_iter().chain(values).chain([self.payload]).collect()
     }
 
-    /// 01, Header and editing: 11 where there are over 128 records, or numbers fall. Otherwise, the records.
+    /// Rules, Edits: 11 where there are over 128 records, or numbers fall. Otherwise, the records.
     pub fn in_order(&self) -> Judged<&[Record]> {
         demand(self.count <= MOST_OPTIONS as u64, 11)?;
         let records = self.counted();
@@ -215,7 +215,7 @@ impl Raw {
         Ok(records)
     }
 
-    /// 01, Writing: 10, of either store; then the causes of 11, a range outside its own home among them.
+    /// Rules, Writing: 10, of either store; then the causes of 11, a range outside its own home among them.
     pub fn judge(&self) -> Judged<()> {
         demand(self.stores.iter().all(|store| store.len() <= MOST_BYTES), 10)?;
         demand(self.version <= 3 && self.token.length <= LONGEST_TOKEN, 11)?;

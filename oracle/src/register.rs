@@ -1,5 +1,5 @@
-//! The register of option numbers: which records of a packet are kept, passed over or refused. "02" is the list of
-//! change requests; a section is one of RFC 7252 unless another is named.
+//! The register of option numbers: which records of a packet are kept, passed over or refused. "Rules" is
+//! docs/RULES.md; a section is one of RFC 7252 unless another is named.
 
 use crate::raw::{Raw, Record};
 use crate::strict_answers::Judged;
@@ -27,7 +27,7 @@ fn is_repeatable(number: u16) -> bool {
     matches!(number, 1 | 4 | 8 | 11 | 15 | 20)
 }
 
-/// 01, Register: 10, then 11; then 16 with the index of the first critical record that isn't recognised. Any other record
+/// Rules, Register: 10, then 11; then 16 with the index of the first critical record that isn't recognised. Any other record
 /// that isn't is passed over (5.4.1).
 pub fn check(packet: &Raw) -> Judged<String> {
     packet.judge()?;
@@ -44,7 +44,7 @@ pub fn check(packet: &Raw) -> Judged<String> {
 }
 
 /// Of the last of some records: a bad length (5.4.3) and a surplus occurrence (5.4.5) are as good as a number that isn't
-/// listed. 02, [3]: a record that was passed over is no occurrence.
+/// listed. Rules, Register: a record that was passed over is no occurrence.
 fn is_recognised(records: &[Record], kept_before: &[bool]) -> bool {
     let Some((last, before)) = records.split_last() else {
         return false;

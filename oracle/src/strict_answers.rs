@@ -1,7 +1,7 @@
 //! The answers that coap-lite can't give, or not all of them: strict messages and blocks here, the other subjects in files
-//! of their own. They are the rules written a second time, straight from the documents: "01" is the scope of work, which has
-//! the numbers of the refusals and their order, and a section is one of RFC 7252 unless another is named. Names of code
-//! bytes, the list of content formats and what plain writing answers after 10 and 11 are coap-lite's.
+//! of their own. They are the rules written a second time, straight from the documents: "Rules" is docs/RULES.md, the
+//! refusals' numbers and order are those of docs/REFUSALS.md, a section is one of RFC 7252 unless another is named. Code
+//! bytes' names, the list of content formats and what plain writing answers after 10 and 11 are coap-lite's.
 
 use crate::raw::{Raw, MOST_OPTIONS};
 use crate::uints::Uint;
@@ -9,7 +9,7 @@ use crate::words::{hex, kind, kind_number, number, yes, Parts, Words, DEFAULT_LI
 use crate::{compaction, counts, edits, frames, freezing, getters, plain_answers, plans, register, targets, uints};
 use coap_lite::MessageClass;
 
-/// 01, What a packet is here: the most bytes of a datagram or a store.
+/// Rules, Packets: the most bytes of a datagram or a store.
 pub const MOST_BYTES: usize = 70_000;
 /// RFC 7959 2.2: a block's number has at most 20 bits.
 const LARGEST_BLOCK_NUMBER: u64 = 0xf_ffff;
@@ -91,7 +91,7 @@ pub fn written(bytes: &[u8], room: u64) -> Judged<String> {
 
 // ---- reading
 
-/// 3, in the order of 01, Reading: 10, 1, 7, 2, 8, the options, 9.
+/// 3, in the order of Rules, Reading: 10, 1, 7, 2, 8, the options, 9.
 pub fn read(datagram: &[u8]) -> Judged<Parts> {
     demand(datagram.len() <= MOST_BYTES, 10)?;
     demand(datagram.len() >= 4, 1)?;
@@ -115,7 +115,7 @@ pub fn read(datagram: &[u8]) -> Judged<Parts> {
     })
 }
 
-/// 3.1, in the order of 01, Reading. What is left starts with the marker, or has no bytes.
+/// 3.1, in the order of Rules, Reading. What is left starts with the marker, or has no bytes.
 fn read_options(rest: &mut &[u8]) -> Judged<Vec<(u16, Vec<u8>)>> {
     let mut options = Vec::new();
     let mut number = 0;
@@ -157,7 +157,7 @@ fn take<'a>(rest: &mut &'a [u8], count: usize) -> Judged<&'a [u8]> {
 
 // ---- writing
 
-/// 01, Writing: by default, as 4.6 suggests, 1,152; or a given one, or none, which is here more than there are bytes to
+/// Rules, Writing: by default, as 4.6 suggests, 1,152; or a given one, or none, which is here more than there are bytes to
 /// write.
 fn limit(word: &[u8]) -> Option<u64> {
     match word {
@@ -167,7 +167,7 @@ fn limit(word: &[u8]) -> Option<u64> {
     }
 }
 
-/// 3, in the order of 01, Writing: 10, 11, 7, 2, 8, 5, 12.
+/// 3, in the order of Rules, Writing: 10, 11, 7, 2, 8, 5, 12.
 fn write(limit: u64, room: u64, packet: &Raw) -> Judged<String> {
     written(&layout(limit, packet)?, room)
 }
@@ -201,7 +201,7 @@ pub fn layout(limit: u64, packet: &Raw) -> Judged<Vec<u8>> {
     Ok(bytes)
 }
 
-/// 01, Writing, plain: 10 and 11; then coap-lite decides.
+/// Rules, Writing, plain: 10 and 11; then coap-lite decides.
 fn write_plain(limit: u64, room: u64, packet: &Raw) -> Judged<String> {
     packet.judge()?;
     Ok(plain_answers::write_packet(&packet.meaning().packet(), Some(limit as usize), room))
@@ -224,21 +224,21 @@ fn block_size(exponent: u8) -> Judged<u64> {
     Ok(1 << (exponent + 4))
 }
 
-/// 01, Blocks: 14, then 17.
+/// Rules, Blocks: 14, then 17.
 fn block_new(number: u64, more: bool, size: u64) -> Judged<String> {
     let exponent = (0..=6).find(|&exponent| block_size(exponent) == Ok(size)).ok_or(14)?;
     demand(number <= LARGEST_BLOCK_NUMBER, 17)?;
     Ok(format!("block {number} {} {exponent}", u8::from(more)))
 }
 
-/// 01, Blocks: 13, then 14, of up to 3 bytes.
+/// Rules, Blocks: 13, then 14, of up to 3 bytes.
 fn block_read(value: &[u8]) -> Judged<String> {
     let uint = uints::read(3, value)?;
     block_size((uint.number & 7) as u8)?;
     Ok(block_shown(&uint))
 }
 
-/// 01, Blocks: of up to 2 bytes, and with any exponent.
+/// Rules, Blocks: of up to 2 bytes, and with any exponent.
 fn plain_block_read(value: &[u8]) -> Judged<String> {
     Ok(block_shown(&uints::read(2, value)?))
 }
@@ -248,7 +248,7 @@ fn block_shown(uint: &Uint) -> String {
     format!("block {} {} {} zeros {}", uint.number >> 4, uint.number >> 3 & 1, uint.number & 7, uint.zeros)
 }
 
-/// 01, Blocks: 14, 17, then 12. 3.2: a uint has no leading zero bytes.
+/// Rules, Blocks: 14, 17, then 12. 3.2: a uint has no leading zero bytes.
 fn block_write(room: u64, number: u64, more: bool, exponent: u8) -> Judged<String> {
     block_size(exponent)?;
     demand(number <= LARGEST_BLOCK_NUMBER, 17)?;

@@ -1,5 +1,5 @@
-//! The path and query of a coap URI as text, from records and into a new packet: request [4] of "02", the list of change
-//! requests. A section is one of RFC 7252 unless another is named.
+//! The path and query of a coap URI as text, from records and into a new packet: docs/RULES.md, Paths and
+//! queries. A section is one of RFC 7252 unless another is named.
 
 use crate::raw::{record_words, Home, Range, Raw, Record, MOST_OPTIONS};
 use crate::strict_answers::{demand, written, Judged, MOST_BYTES};

@@ -1,14 +1,14 @@
-//! Uints and the zero bytes that they are padded with. "02" is the list of change requests; a section is one of RFC 7252.
+//! Uints and the zero bytes that they are padded with. "Rules" is docs/RULES.md; a section is one of RFC 7252.
 
 use crate::strict_answers::{demand, Judged};
 
-/// What a value is read as: 02, [7], so many zero bytes and then the shortest form of the number.
+/// What a value is read as (Rules, Uints and text): so many zero bytes and then the shortest form of the number.
 pub struct Uint {
     pub number: u64,
     pub zeros: usize,
 }
 
-/// 01, Uints: 13 is about the length alone. No width is over 8.
+/// Rules, Uints and text: 13 is about the length alone. No width is over 8.
 pub fn read(width: u64, value: &[u8]) -> Judged<Uint> {
     demand(value.len() as u64 <= width.min(8), 13)?;
     let number = value.iter().fold(0, |number, &byte| number << 8 | u64::from(byte));

@@ -40,6 +40,10 @@ fn take_piece(kept: Kept, input: &mut [u8]) -> Kept {
         return end(kept, input);
     }
     let got = libc::read(STDIN_FILENO, &mut input[waiting..]);
+    if got < 0 {
+        output::input_failed();
+        return Kept::NONE;
+    }
     let count = io::count(got, &input[waiting..]);
     if count == 0 {
         return end(kept, input);
@@ -52,13 +56,13 @@ fn take_piece(kept: Kept, input: &mut [u8]) -> Kept {
         return Kept {
             waiting,
             cut: kept.cut,
-            more: true,
+            more: kept.more,
         };
     }
     Kept {
         waiting: 0,
         cut: true,
-        more: true,
+        more: kept.more,
     }
 }
 
@@ -88,9 +92,5 @@ fn end(kept: Kept, input: &mut [u8]) -> Kept {
             pieces::answer(kept, part(input, 0, waiting + 1));
         }
     }
-    Kept {
-        waiting: 0,
-        cut: false,
-        more: false,
-    }
+    Kept::NONE
 }

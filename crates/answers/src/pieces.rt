@@ -14,8 +14,17 @@ pub struct Kept {
     pub waiting: usize,
     // Whether the start of that line is gone, since it is too long.
     pub cut: bool,
-    // Whether the input goes on.
+    // Whether the input goes on: it hasn't ended, and neither reading nor writing has failed.
     pub more: bool,
+}
+
+impl Kept {
+    // Nothing goes on.
+    pub const NONE: Kept = Kept {
+        waiting: 0,
+        cut: false,
+        more: false,
+    };
 }
 
 // Answers the lines of a piece. How far they go stands in `waiting`.
@@ -50,23 +59,22 @@ fn answer_lines(
     while i < piece.len() {
         let end = line_end(piece, start);
         if end == NOWHERE {
-            flushed(out, place);
-            return Kept {
-                waiting: start,
-                cut,
-                more: true,
-            };
+            return written(start, cut, out, place);
         }
         place = answer_line(cut, part(piece, start, end), store, room, out, place);
         cut = false;
         start = end;
         i = i + 1;
     }
-    flushed(out, place);
+    written(start, cut, out, place)
+}
+
+// Writes the answers of a piece.
+fn written(waiting: usize, cut: bool, out: &[u8], place: usize) -> Kept {
     Kept {
-        waiting: start,
+        waiting,
         cut,
-        more: true,
+        more: flushed(out, place) != NOWHERE,
     }
 }
 

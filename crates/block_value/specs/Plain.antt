@@ -1,4 +1,4 @@
--- Plain block values.
+-- Plain block values (docs/RULES.md, Blocks).
 use Prim.Native.Nat.{ℕ, _%_}
 use mathlib.Core.Path.{_≡_}
 use mathlib.Core.Bool.{Bool}

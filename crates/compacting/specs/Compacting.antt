@@ -1,4 +1,5 @@
--- Compaction: the live bytes of a packet moved to the front of the edit store, and its ranges rewritten.
+-- Compaction (docs/RULES.md, Compaction): the live bytes of a packet moved to the front of the edit store, and its ranges
+-- rewritten.
 use Prim.Native.Nat.{ℕ, _+_, _-_}
 use mathlib.Core.Path.{_≡_}
 use mathlib.Core.List.{List, [], _∷_, _++_}

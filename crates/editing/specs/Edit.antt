@@ -1,4 +1,4 @@
--- What each edit makes of a packet, by the list of its records.
+-- What each edit makes of a packet (docs/RULES.md, Edits), by the list of its records.
 use Prim.Native.Nat.{ℕ}
 use mathlib.Core.Bool.{Bool}
 use mathlib.Core.List.{List, [], _∷_, map}

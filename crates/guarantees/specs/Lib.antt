@@ -12,6 +12,7 @@ pub mod Register
 pub mod Padded
 pub mod Blocks
 pub mod Texts
+pub mod Tables
 pub mod Frames
 pub mod Streams
 pub mod Conversions

@@ -1,4 +1,5 @@
--- What makes a packet one that cannot be written or edited, BadRecord (11), and how many bytes its options take.
+-- What makes a packet one that cannot be written or edited, BadRecord (11; docs/RULES.md, Writing and Edits), and how many
+-- bytes its options take.
 use Prim.Native.Nat.{ℕ, _+_, _-_}
 use mathlib.Core.Bool.{Bool, false}
 use mathlib.Core.List.{List, [], _∷_}

@@ -2,6 +2,7 @@
 use libc::STDIN_FILENO;
 use libc::STDOUT_FILENO;
 use refusal::Refusal;
+use words::part;
 ghost use mathlib.Core.Path.{_≡_};
 ghost use lib.ListN.{take};
 ghost use Rattle.io.specs.Counts.{Counts};
@@ -25,11 +26,17 @@ fn list(datagram: &[u8], out: &mut [u8; 135000]) -> usize
     )
 }
 
-// The buffer has room for one byte more than a datagram may have, which is how a longer one is known.
+// The buffer has room for one byte more than a datagram may have, which is how a longer one is known. Where reading or writing
+// fails, standard error says why.
 fn main() {
     let mut datagram = io::large_buffer();
-    let n = io::read_full(STDIN_FILENO, &mut datagram);
+    let filled = reread::fill(STDIN_FILENO, &mut datagram, 0);
+    if filled.failed {
+        return;
+    }
     let mut out = [0u8; 135000];
-    let m = list(&datagram[..n], &mut out);
-    io::write_all(STDOUT_FILENO, &out[..m]);
+    let m = list(part(&datagram, 0, filled.count), &mut out);
+    if !io::write_all(STDOUT_FILENO, &out[..m]) {
+        os::fail(b"writing the output");
+    }
 }

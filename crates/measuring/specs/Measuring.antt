@@ -1,4 +1,5 @@
--- The answer of writing a packet, by sizes alone: what is sent, the counted size, the limit, and the order of refusals.
+-- The answer of writing a packet (docs/RULES.md, Writing), by sizes alone: what is sent, the counted size, the limit, and the
+-- order of refusals.
 use Prim.Native.Nat.{ℕ, _+_}
 use mathlib.Core.Bool.{Bool, true, false, not}
 use lib.Dec.{ltb, eqb}

@@ -1,4 +1,4 @@
--- The limits that the rules name, each once: the constants of the same names stand in src/limits.rt.
+-- The limits that the rules name (docs/RULES.md), each once: the constants of the same names stand in src/limits.rt.
 use Prim.Native.Nat.{ℕ}
 
 -- Datagram and store hold at most 70,000 bytes.

@@ -1,4 +1,4 @@
--- What a packet is, what its ranges name in two stores, and the new packet.
+-- What a packet is (docs/RULES.md, Packets), what its ranges name in two stores, and the new packet.
 use Prim.Native.Nat.{ℕ, _+_}
 use mathlib.Core.List.{List, [], _∷_}
 use lib.ListN.{length, take, getD, replicate}

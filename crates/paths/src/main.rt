@@ -1,6 +1,5 @@
 // Shows what the paths and queries of coap URIs become: reads one text to a line on standard input, and writes the records of
 // each, their bytes on the wire, and the text that these give back, to standard output.
-use libc::STDERR_FILENO;
 use libc::STDIN_FILENO;
 use output::flushed;
 use output::spilled;
@@ -24,30 +23,15 @@ fn answer_input(input: &mut [u8; 300000]) {
 
 // Reads the input, and answers each line. Standard error says where the input can't be read, or is too long.
 fn answer_text(input: &mut [u8]) {
-    let count = io::read_full(STDIN_FILENO, input);
-    if count < input.len() {
-        if !failed() {
-            answer_with_buffers(part(input, 0, count));
-        }
+    let filled = reread::fill(STDIN_FILENO, input, 0);
+    if filled.failed {
+        return;
+    }
+    if filled.ended {
+        answer_with_buffers(part(input, 0, filled.count));
     } else {
-        io::write_all(
-            STDERR_FILENO,
-            b"the input is too long: 299999 bytes at most\n",
-        );
+        reports::say(b"the input is too long: 299999 bytes at most\n");
     }
-}
-
-// Whether reading ended because it failed: one read more then fails too. A terminal is not asked again for what has ended.
-fn failed() -> bool {
-    if libc::isatty(STDIN_FILENO) == 1 {
-        return false;
-    }
-    let mut byte = [0u8; 1];
-    if libc::read(STDIN_FILENO, &mut byte) < 0 {
-        os::fail(b"reading the input");
-        return true;
-    }
-    false
 }
 
 fn answer_with_buffers(text: &[u8]) {

@@ -1,25 +1,18 @@
 // Refusals, by number and name.
 use placing::put_byte;
 use refusal::Refusal;
-use reports::put_name;
+use reports::put_named;
 use reports::put_number;
 
 // refused 15 BadText
 pub fn put_refused(out: &mut [u8], place: usize, why: Refusal) -> usize {
-    let next = put_named(out, place, why.number());
+    let next = put_named(out, place, why);
     put_byte(out, next, b'\n')
 }
 
 // refused 16 BadOption at 1
 pub fn put_bad_option(out: &mut [u8], place: usize, index: usize) -> usize {
-    let bad = Refusal::BadOption;
-    let next = put_named(out, place, bad.number());
+    let next = put_named(out, place, Refusal::BadOption);
     let next = put_number(out, next, b" at ", index as u64);
     put_byte(out, next, b'\n')
-}
-
-fn put_named(out: &mut [u8], place: usize, number: u8) -> usize {
-    let next = put_number(out, place, b"refused ", number as u64);
-    let next = put_byte(out, next, b' ');
-    put_name(out, next, number)
 }

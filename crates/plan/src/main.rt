@@ -1,7 +1,6 @@
 // Plans the rest of images, and checks plans: reads one image to a line on standard input, and writes its plan, a picture and
 // the verdict to standard output.
 use libc::STDIN_FILENO;
-use libc::STDOUT_FILENO;
 use output::flushed;
 use placing::put_bytes;
 use words::NOWHERE;
@@ -25,17 +24,19 @@ fn answer_input(input: &mut [u8; 300000]) {
     answer_text(input);
 }
 
-// Reads the input, gives its last line a newline, and answers each line.
+// Reads the input, gives its last line a newline, and answers each line. Standard error says where the input can't be read, or
+// is too long.
 fn answer_text(input: &mut [u8]) {
-    let count = io::read_full(STDIN_FILENO, input);
+    let filled = reread::fill(STDIN_FILENO, input, 0);
+    if filled.failed {
+        return;
+    }
+    let count = filled.count;
     if count < input.len() {
         input[count] = b'\n';
         answer_with_buffers(part(input, 0, count + 1));
     } else {
-        io::write_all(
-            STDOUT_FILENO,
-            b"the input is too long: 299999 bytes at most\n",
-        );
+        reports::say(b"the input is too long: 299999 bytes at most\n");
     }
 }
 

@@ -1,4 +1,5 @@
--- What a plan is: a list of blocks (RFC 7959 2.2) that fetches each missing unit of an image once, and no unit that is held.
+-- What a plan is (docs/RULES.md, Image plans): a list of blocks (RFC 7959 2.2) that fetches each missing unit of an image once,
+-- and no unit that is held.
 use Prim.Native.Nat.{ℕ, zero, suc, _+_, _*_, _^_}
 use mathlib.Core.Path.{_≡_}
 use mathlib.Core.Bool.{Bool, true, not}

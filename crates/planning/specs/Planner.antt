@@ -1,5 +1,5 @@
--- Our planner: at each missing unit not yet covered, in rising order, the largest aligned block that starts there and touches no
--- held unit.
+-- Our planner (docs/RULES.md, Image plans): at each missing unit not yet covered, in rising order, the largest aligned block
+-- that starts there and touches no held unit.
 use Prim.Native.Nat.{ℕ, zero, suc, _+_, _-_, _*_, _/_, _%_, _^_}
 use mathlib.Core.Path.{_≡_}
 use mathlib.Core.Bool.{Bool, true}

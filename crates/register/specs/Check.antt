@@ -1,4 +1,5 @@
--- The check of a packet's options: the order of its refusals, what becomes of each record, and what is reported.
+-- The check of a packet's options (docs/RULES.md, Register): the order of its refusals, what becomes of each record, and what
+-- is reported.
 use Prim.Native.Nat.{ℕ, _+_, _-_}
 use mathlib.Core.Path.{_≡_}
 use mathlib.Core.Bool.{Bool, true, false}

@@ -1,4 +1,4 @@
-// What programs say besides their output: refusals by number and name, the verdict, and how far they are.
+// What the programs say besides their output: refusals by number and name, the verdict, and how far they are.
 use decimal::put_decimal;
 use libc::STDERR_FILENO;
 use libc::STDOUT_FILENO;
@@ -14,16 +14,20 @@ const NAMES: [u8; 259] =
 
 // Puts a line on a refusal: its number, its name, and what was refused by its number from 1: refused 19 BadFreeze, message 2
 pub fn put_refused(out: &mut [u8], at: usize, why: Refusal, what: &[u8], which: u64) -> usize {
-    let number = why.number();
-    let next = put_number(out, at, b"refused ", number as u64);
-    let next = put_byte(out, next, b' ');
-    let next = put_name(out, next, number);
+    let next = put_named(out, at, why);
     let next = put_number(out, next, what, which);
     put_byte(out, next, b'\n')
 }
 
-// Puts the name of a refusal, by its number.
-pub fn put_name(out: &mut [u8], at: usize, number: u8) -> usize {
+// Puts a refusal by number and name: refused 19 BadFreeze
+pub fn put_named(out: &mut [u8], at: usize, why: Refusal) -> usize {
+    let number = why.number();
+    let next = put_number(out, at, b"refused ", number as u64);
+    let next = put_byte(out, next, b' ');
+    put_name(out, next, number)
+}
+
+fn put_name(out: &mut [u8], at: usize, number: u8) -> usize {
     if number == 0 {
         return at;
     }

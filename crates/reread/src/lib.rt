@@ -11,12 +11,12 @@ pub struct Input {
     pub start: i64,
 }
 
-// Standard input, at any size.
+// Standard input, at any size. One that is closed isn't taken for an empty one: the copy would get its number.
 pub fn standard() -> Input {
     let start = libc::lseek(STDIN_FILENO, 0, SEEK_CUR);
     if start < 0 {
         return Input {
-            fd: copied(),
+            fd: copied_if_open(),
             start: 0,
         };
     }
@@ -33,6 +33,14 @@ pub fn rewound(input: Input) -> bool {
         return false;
     }
     true
+}
+
+fn copied_if_open() -> i32 {
+    if os::errno() == libc::EBADF {
+        os::fail(b"reading the input");
+        return -1;
+    }
+    copied()
 }
 
 // A copy of standard input, as a descriptor.

@@ -1,4 +1,5 @@
--- Freeze streams: the bytes of a list of messages, in either form. Nothing but the numbers of a chunk tells the forms apart.
+-- Freeze streams (docs/RULES.md, Freeze streams): the bytes of a list of messages, in either form. Nothing but the numbers of a
+-- chunk tells the forms apart.
 use Prim.Native.Nat.{ℕ, zero, suc, _+_, _-_, _*_, _/_, _≤_}
 use mathlib.Core.Path.{_≡_}
 use mathlib.Core.List.{List, [], _∷_, _++_}

@@ -1,4 +1,5 @@
--- What the getters of the content format and of Observe read: the first record of their number, as a uint.
+-- What the getters of the content format and of Observe read (docs/RULES.md, Edits): the first record of their number, as a
+-- uint.
 use Prim.Native.Nat.{ℕ}
 use mathlib.Core.Path.{_≡_}
 use mathlib.Core.List.{List, [], _∷_}

@@ -1,4 +1,5 @@
--- Setting the content format and Observe: an edit of the records, and the value's shortest uint put into the edit store.
+-- Setting the content format and Observe (docs/RULES.md, Edits): an edit of the records, and the value's shortest uint put into
+-- the edit store.
 use Prim.Native.Nat.{ℕ}
 use mathlib.Core.Path.{_≡_}
 use mathlib.Core.List.{List, [], _∷_}

@@ -19,8 +19,8 @@ loop-holds c = omega arith
 line-end-requires : tie.Need-line-end-requires Inv-loop μ-loop
 line-end-requires c κs = tt
 
-flushed-requires : tie.Need-flushed-requires Inv-loop μ-loop
-flushed-requires c κs = tt
+written-requires : tie.Need-written-requires Inv-loop μ-loop
+written-requires c κs = tt
 
 same-length : tie.Need-same-length Inv-loop μ-loop
 same-length c = search needs
@@ -49,8 +49,8 @@ loop-less c = omega arith
 loop-again : tie.Need-loop-again Inv-loop μ-loop
 loop-again c = search needs
 
-flushed-requires-2 : tie.Need-flushed-requires-2 Inv-loop μ-loop
-flushed-requires-2 c κs = tt
+written-requires-2 : tie.Need-written-requires-2 Inv-loop μ-loop
+written-requires-2 c κs = tt
 
 same-length-4 : tie.Need-same-length-4 Inv-loop μ-loop
 same-length-4 c = search needs
@@ -72,7 +72,7 @@ answer-lines-spec =
     μ-loop
     loop-holds
     line-end-requires
-    flushed-requires
+    written-requires
     same-length
     same-length-2
     same-length-3
@@ -82,7 +82,7 @@ answer-lines-spec =
     add-i
     loop-less
     loop-again
-    flushed-requires-2
+    written-requires-2
     same-length-4
     same-length-5
     same-length-6
