@@ -1,4 +1,4 @@
-//! Streams of frozen messages, written, read and converted: docs/RULES.md, Freeze streams.
+//! Streams of frozen messages, written, read and converted, and traces: docs/RULES.md, Freeze streams and Replay.
 
 use crate::plans::listed;
 use crate::raw::Raw;
@@ -8,8 +8,10 @@ use crate::words::{hex, Words, MOST_ROOM, MOST_VALUES};
 /// Kinds of records in both forms.
 const PEER: u8 = 1;
 const END: u8 = 3;
+/// And in traces: the time of a message in seconds, 4 bytes, high byte first.
+const TIME: u8 = 8;
 /// 16 address bytes and 2 port bytes.
-const PEER_BYTES: usize = 18;
+pub const PEER_BYTES: usize = 18;
 /// A message's bytes are a strict datagram of 4 to so many.
 const MOST_FROZEN: usize = 1_280;
 
@@ -49,9 +51,14 @@ impl Form {
 pub fn answer_freeze(words: &mut Words) -> Option<Judged<String>> {
     let form = Form::of(words)?;
     let (room, start) = (words.number(MOST_ROOM)?, words.number(u64::MAX)?);
-    let peer = words.bytes().filter(|peer| peer.len() == PEER_BYTES)?;
+    let peer = peer(words)?;
     let datagram = layout(MOST_FROZEN as u64, &Raw::named(words)?);
     Some(datagram.and_then(|datagram| written(&frozen(form, &peer, &datagram), room.checked_sub(start).ok_or(12)?)))
+}
+
+/// PEER
+pub fn peer(words: &mut Words) -> Option<[u8; PEER_BYTES]> {
+    words.bytes()?.try_into().ok()
 }
 
 /// `thaw FORM PLACES ROOM HEX`: 19 of the whole stream, the first bad datagram's own refusal, then 12 of either room.
@@ -120,16 +127,45 @@ fn thawed(form: Form, stream: &[u8]) -> Judged<Vec<Message>> {
     Ok(messages)
 }
 
-/// A record: a peer, by its start in the stream, the bytes that a chunk counts, or an end.
+/// A message of a trace with its time and its peer.
+pub struct Traced {
+    pub time: u32,
+    pub peer: [u8; PEER_BYTES],
+    pub datagram: Vec<u8>,
+}
+
+/// The messages of a trace, a stream of either form with a time before each message; 19 where it is neither.
+pub fn traced(trace: &[u8]) -> Judged<Vec<Traced>> {
+    traced_in(Form::Old, trace).or_else(|_| traced_in(Form::New, trace))
+}
+
+fn traced_in(form: Form, trace: &[u8]) -> Judged<Vec<Traced>> {
+    let records = records(form, trace)?;
+    let mut messages = Vec::new();
+    let mut rest = &records[..];
+    while let Some((first, more)) = rest.split_first() {
+        let Record::Time(time) = *first else {
+            return Err(19);
+        };
+        let (message, behind) = first_message(form, more)?;
+        let peer = trace[message.peer..message.peer + PEER_BYTES].try_into().expect("a record of a peer has all of it");
+        messages.push(Traced { time, peer, datagram: message.datagram });
+        rest = behind;
+    }
+    Ok(messages)
+}
+
+/// A record: a time, a peer, by its start in the stream, the bytes that a chunk counts, or an end.
 #[derive(Clone, Copy, PartialEq)]
 enum Record<'a> {
+    Time(u32),
     Peer(usize),
     Chunk(&'a [u8]),
     End,
 }
 
 /// One byte of kind and a body whose length the kind fixes, up to the end of the stream; 19 for any other, one of the other
-/// form too.
+/// form too. A time is a record of a trace alone: where no trace is asked for, none of the orders below has it.
 fn records(form: Form, stream: &[u8]) -> Judged<Vec<Record<'_>>> {
     let mut records = Vec::new();
     let mut at = 0;
@@ -137,6 +173,7 @@ fn records(form: Form, stream: &[u8]) -> Judged<Vec<Record<'_>>> {
         let length = match (form, kind) {
             (_, PEER) => PEER_BYTES,
             (_, END) => 0,
+            (_, TIME) => 4,
             (Form::Old, 2) => 1 + 30,
             (Form::New, 4) => 64,
             (Form::New, 129..=191) => usize::from(kind) - 128,
@@ -146,6 +183,7 @@ fn records(form: Form, stream: &[u8]) -> Judged<Vec<Record<'_>>> {
         records.push(match kind {
             PEER => Record::Peer(at + 1),
             END => Record::End,
+            TIME => Record::Time(u32::from_be_bytes(body.try_into().expect("4 bytes"))),
             2 => Record::Chunk(counted(body)?),
             _ => Record::Chunk(body),
         });
@@ -167,15 +205,21 @@ fn counted(body: &[u8]) -> Judged<&[u8]> {
 fn messages(form: Form, records: &[Record]) -> Judged<Vec<Message>> {
     let mut messages = Vec::new();
     let mut rest = records;
-    while let Some((first, more)) = rest.split_first() {
-        let Record::Peer(peer) = *first else {
-            return Err(19);
-        };
-        let end = more.iter().position(|&record| record == Record::End).ok_or(19)?;
-        messages.push(Message { peer, datagram: joined(form, &more[..end])? });
-        rest = &more[end + 1..];
+    while !rest.is_empty() {
+        let (message, behind) = first_message(form, rest)?;
+        messages.push(message);
+        rest = behind;
     }
     Ok(messages)
+}
+
+/// The message that records begin with, and those behind it.
+fn first_message<'a, 'b>(form: Form, records: &'a [Record<'b>]) -> Judged<(Message, &'a [Record<'b>])> {
+    let Some((Record::Peer(peer), more)) = records.split_first() else {
+        return Err(19);
+    };
+    let end = more.iter().position(|&record| record == Record::End).ok_or(19)?;
+    Ok((Message { peer: *peer, datagram: joined(form, &more[..end])? }, &more[end + 1..]))
 }
 
 /// What stands between peer and end: chunks, all of them full but perhaps the last, of 4 to 1,280 bytes together.

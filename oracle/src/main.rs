@@ -13,6 +13,7 @@ mod plain_answers;
 mod plans;
 mod raw;
 mod register;
+mod replays;
 mod requests;
 mod sample;
 mod strict_answers;

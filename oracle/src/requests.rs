@@ -9,6 +9,7 @@ mod ranged;
 mod registered;
 mod scripts;
 mod short;
+mod traced;
 mod typed;
 mod varied;
 
@@ -92,7 +93,7 @@ pub fn outside(out: &mut impl Write) -> io::Result<()> {
 /// The kinds of request that have a strict form; those that coap-lite has no answer to, with no plain form or over two stores;
 /// and those whose answers have counts of zeros, which coap-lite doesn't tell.
 const BOTH: [&str; 7] = ["read", "write", "write-raw", "block-new", "block-read", "block-write", "block-size"];
-const STRICT: [&str; 16] = [
+const STRICT: [&str; 18] = [
     "register",
     "properties",
     "plan",
@@ -107,6 +108,8 @@ const STRICT: [&str; 16] = [
     "freeze",
     "thaw",
     "convert",
+    "hear",
+    "replay",
     "target-write",
     "target-read",
 ];

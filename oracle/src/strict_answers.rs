@@ -6,7 +6,9 @@
 use crate::raw::{Raw, MOST_OPTIONS};
 use crate::uints::Uint;
 use crate::words::{hex, kind, kind_number, number, yes, Parts, Words, DEFAULT_LIMIT, LONGEST_LINE, MOST_ROOM};
-use crate::{compaction, counts, edits, frames, freezing, getters, plain_answers, plans, register, targets, uints};
+use crate::{
+    compaction, counts, edits, frames, freezing, getters, plain_answers, plans, register, replays, targets, uints,
+};
 use coap_lite::MessageClass;
 
 /// Rules, Packets: the most bytes of a datagram or a store.
@@ -58,6 +60,8 @@ fn answer_request(line: &[u8]) -> Option<Judged<String>> {
         b"freeze" => kept(freezing::answer_freeze(&mut words)?),
         b"thaw" => kept(freezing::answer_thaw(&mut words)?),
         b"convert" => kept(freezing::answer_convert(&mut words)?),
+        b"hear" => kept(replays::answer_hear(&mut words)?),
+        b"replay" => Ok(replays::answer_replay(&mut words)?),
         b"target-write" => kept(targets::answer_write(&mut words)?),
         b"target-read" => Ok(targets::answer_read(&mut words)?),
         b"register" => register::check(&Raw::named(&mut words)?),

@@ -30,7 +30,7 @@ pub fn answer(
     answer_more(line, store, room, out, place)
 }
 
-// Answers a request on compaction, paths or streams, or one that is answered by value.
+// Answers a request on compaction, paths, streams or replays, or one that is answered by value.
 fn answer_more(
     line: &[u8],
     store: &mut [u8],
@@ -49,6 +49,10 @@ fn answer_more(
     let name = stream_requests::named(line);
     if name.index != NOWHERE {
         return stream_requests::answer(name, line, store, room, out, place);
+    }
+    let name = replay_requests::named(line);
+    if name.index != NOWHERE {
+        return replay_requests::answer(name, line, store, room, out, place);
     }
     answer_value(line, store, room).put(out, place, store, room)
 }

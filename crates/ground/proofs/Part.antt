@@ -1,12 +1,12 @@
--- Laws of parts: bytes of a part are bytes, and the kit's `sets` for what stands in an output piece by piece.
-use Prim.Native.Nat.{ℕ, zero, suc, _+_, _<_, _≤_}
-use mathlib.Core.Path.{_≡_, sym, _∙_, ap}
-use mathlib.Core.List.{List, [], _∷_, _++_}
+-- Laws of parts: bytes of a part are bytes; the kit's `sets` for what stands in an output piece by piece; and parts of that output.
+use Prim.Native.Nat.{ℕ, zero, suc, _+_, _-_, _<_, _≤_}
+use mathlib.Core.Path.{_≡_, refl, sym, _∙_, ap}
+use mathlib.Core.List.{List, [], _∷_, _++_, append-assoc}
 use native.Mathlib.Nat.{add-zero, zero-add, add-suc, suc-add}
 use native.Mathlib.Omega.{arith}
 use lib.ListN.{length, take, drop, getD, set}
-use lib.Seq.{sets, sets-eq}
-use Rattle.ground.specs.Part.{Bytes}
+use lib.Seq.{sets, sets-eq, drop-set-lt, drop-set-add, take-set-le, take-at, drop-at, length-take-le}
+use Rattle.ground.specs.Part.{part, Bytes}
 
 pub bytes-take : (n : ℕ) (s : List ℕ) → Bytes s → Bytes (take n s)
 bytes-take zero s b = tt
@@ -41,3 +41,24 @@ sets-append l i (v ∷ vs) ws =
 -- Bytes put at the front, said without `sets`.
 pub put-front : (l vs : List ℕ) → length vs ≤ length l → sets l 0 vs ≡ vs ++ drop (length vs) l
 put-front l vs h = sets-eq vs l 0 (rw zero-add h) ∙ rw zero-add
+
+-- A part that ends before the first of some bytes that were put, and what starts after the last, are as they were.
+pub part-before : (vs l : List ℕ) (i from size : ℕ) → from + size ≤ i → part (sets l i vs) from size ≡ part l from size
+part-before [] l i from size h = refl
+part-before (v ∷ vs) l i from size h =
+    let e : i ≡ from + (i - from) = omega arith in
+    part-before vs (set l i v) (suc i) from size (omega arith)
+    ∙ (ap (λ (k : ℕ). part (set l k v) from size) e
+    ∙ (ap (take size) (drop-set-add from l (i - from) v) ∙ take-set-le size (drop from l) (i - from) v (omega arith)))
+
+pub part-after : (vs l : List ℕ) (i from : ℕ) → i + length vs ≤ from → drop from (sets l i vs) ≡ drop from l
+part-after [] l i from h = refl
+part-after (v ∷ vs) l i from h = part-after vs (set l i v) (suc i) from (omega arith) ∙ drop-set-lt from l i v (omega arith)
+
+-- The part where they were put is those bytes.
+pub part-put : (l : List ℕ) (at : ℕ) (vs : List ℕ) → at + length vs ≤ length l → part (sets l at vs) at (length vs) ≡ vs
+part-put l at vs h =
+    let rest = drop (at + length vs) l in
+    let before : length (take at l) ≡ at = length-take-le at l (omega arith) in
+    ap (λ (m : List ℕ). part m at (length vs)) (sets-eq vs l at h ∙ append-assoc (take at l) vs rest)
+    ∙ (ap (take (length vs)) (drop-at (take at l) (vs ++ rest) at before) ∙ take-at vs rest (length vs) refl)

@@ -29,9 +29,11 @@ use Rattle.uri_text.specs.Judging.{judgedRead}
 use Rattle.uri_text.specs.Tally.{Tally as UriTally, tallied}
 use Rattle.uri_text.specs.declared.Judged.the-variants.{Length, BadText as NoText, BadOption as NoOption}
 use Rattle.uri_text.specs.declared.Tallied.the-variants.{Values, BadText as NoUri, BadOption as NotSaid}
+use Rattle.hearing.proofs.Distinct.{one-heard}
+use Rattle.tracing.proofs.Distinct.{one-judged as one-judged-trace, one-timed, one-arrived}
 use Rattle.packet.specs.declared.Packet.{Packet}
 use Rattle.reading.specs.Reading.{decoded}
-use Rattle.guarantees.specs.Determined.{TellsApart, OneAnswer, Told, OneVerdict, OnePlan, OneConversion, OneCompaction, OneThawing, OneFreezing}
+use Rattle.guarantees.specs.Determined.{TellsApart, OneAnswer, Told, OneVerdict, OnePlan, OneConversion, OneCompaction, OneThawing, OneFreezing, OneHearing, OneClearing, OneReplay}
 
 pub one-answer : OneAnswer
 one-answer A B f t d x y e q = t x y (e ∙ sym q)
@@ -143,7 +145,11 @@ told =
       strict-streams = one-strict;
       uri-parts = one-uri-part;
       uri-texts = one-uri-text;
+      heard = one-heard;
       peers-read = one-peer-read;
+      traces = one-judged-trace;
+      timed-messages = one-timed;
+      arrivals = one-arrived;
     }
 
 pub one-verdict : OneVerdict
@@ -164,3 +170,15 @@ one-compaction p s second r q edits also buffer other c x =
     let outcome = one-written (r .outcome) (q .outcome) (c .answer ∙ sym (x .answer)) in
     let packet = c .packet ∙ sym (x .packet) in
     (λ k. record { outcome = outcome k; packet = packet k }, c .edits ∙ sym (x .edits), c .buffer ∙ sym (x .buffer))
+
+pub one-hearing : OneHearing
+one-hearing before m old r q left also x y = (one-heard r q (x .answer ∙ sym (y .answer)), x .table ∙ sym (y .table))
+
+pub one-clearing : OneClearing
+one-clearing old r q left also x y = (one-outcome r q (x .answer ∙ sym (y .answer)), x .table ∙ sym (y .table))
+
+pub one-replay : OneReplay
+one-replay s table listing r q left also listed other x y =
+    let outcome = one-outcome (r .outcome) (q .outcome) (x .outcome ∙ sym (y .outcome)) in
+    let count = x .count ∙ sym (y .count) in
+    (λ k. record { outcome = outcome k; count = count k }, x .table ∙ sym (y .table), x .listing ∙ sym (y .listing))

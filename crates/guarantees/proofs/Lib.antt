@@ -19,6 +19,8 @@ pub mod Conversions
 pub mod StreamRefusals
 pub mod Peers
 pub mod Compaction
+pub mod Duplicates
+pub mod Replays
 mod FrameSamples
 mod StreamSamples
 pub mod Plans

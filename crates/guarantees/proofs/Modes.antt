@@ -9,9 +9,9 @@ use lib.Dec.{T, ltb, eqb, leb}
 use lib.ListN.{length, length-append}
 use borrow.Author.Tests.{ltb-true, le-leb, lt-leb, lt-ltb, eqb-true, eqb-false, eq-eqb, ne-eqb, not-true}
 use Rattle.ground.specs.Choice.{pick, both}
-use Rattle.ground.specs.Part.{Bytes}
+use Rattle.ground.specs.Part.{Bytes, Among}
 use Rattle.ground.specs.Table.{listed}
-use Rattle.ground.proofs.Choice.{on, on-lt, by-lt}
+use Rattle.ground.proofs.Choice.{on, on-lt, by-lt, both-true}
 use Rattle.rfc.specs.Message.{Opt, layout}
 use Rattle.refusal.specs.Answer.{Answer, given, refused, outcome, Beside, beside}
 use Rattle.refusal.specs.Number.{numberOf}
@@ -28,7 +28,7 @@ use Rattle.reading.specs.Reading.{FromBytes, decoded, afterHeader, reading}
 use Rattle.reading.specs.declared.Decoded.{Decoded}
 use Rattle.reading.proofs.Longest.{valuesWithin}
 use Rattle.reading.proofs.Modes.{readAgain, Seen, seen}
-use Rattle.guarantees.specs.Modes.{Accepts, Refuses, RefusesWith, said, Among, Long, HasLong, BareMarker, Cause, Modes, Exactly, TwoModes, RefusedApart}
+use Rattle.guarantees.specs.Modes.{Accepts, Refuses, RefusesWith, said, Long, HasLong, BareMarker, Cause, Modes, Exactly, TwoModes, RefusedApart}
 use Rattle.guarantees.proofs.StrictReading.{done, gives}
 
 -- Where not every value is within 65535, one is longer; and where one is, not every value is.
@@ -67,10 +67,6 @@ one-way (Refused e) = inr (e, refl)
 
 never : (d : Decoded) → Accepts d → (e : Refusal) → d .outcome ≡ Refused e → ⊥
 never d h e r = let z : _≡_ {A = ℕ} 0 1 = cc in omega arith
-
-both-true : (a b : Bool) → both a b ≡ true → (a ≡ true) × (b ≡ true)
-both-true true b e = (refl, e)
-both-true false b e = (e, cc)
 
 one-of : (t : Bool) (p q : Packet) (k : ℕ) → given p ≡ pick t (given q) (refused k) → p ≡ q
 one-of true p q k e = same-given e

@@ -3,7 +3,7 @@ use Prim.Native.Nat.{ℕ}
 use mathlib.Core.Path.{_≡_, sym, ap, _∙_}
 use mathlib.Core.List.{List}
 use lib.ListN.{replicate}
-use Rattle.refusal.specs.Answer.{Answer, given, Beside, beside}
+use Rattle.refusal.specs.Answer.{given, Beside, beside}
 use Rattle.refusal.specs.declared.Outcome.the-variants.{Done}
 use Rattle.refusal.proofs.Answers.{same-given}
 use Rattle.refusal.proofs.Distinct.{one-outcome}

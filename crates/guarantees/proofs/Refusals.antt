@@ -4,7 +4,7 @@ use mathlib.Core.Path.{_≡_, refl, sym, ap, _∙_}
 use mathlib.Core.Bool.{true}
 use mathlib.Core.List.{List}
 use mathlib.Core.Logic.{inl, inr}
-use lib.ListN.{length}
+use lib.ListN.{length, replicate}
 use Rattle.refusal.specs.Answer.{Answer, given, refused, outcome, written, Beside, beside, onward, fitted, after}
 use Rattle.refusal.specs.Number.{numberOf}
 use Rattle.refusal.specs.declared.Refusal.{Refusal}
@@ -22,12 +22,16 @@ use Rattle.reading.specs.Reading.{reading}
 use Rattle.register.proofs.Order.{none-kept}
 use Rattle.stream.specs.Messages.{messageAt, thawed}
 use Rattle.stream.specs.Stream.{messageOf, datagramsOf}
-use Rattle.stream.specs.Answers.{Extent, stepRead}
+use Rattle.stream.specs.Answers.{stepRead}
 use Rattle.thawing.specs.Message.{nextIn, foundBytes}
 use Rattle.thawing.specs.Thawing.{thawing, entries, messagesIn}
 use Rattle.freezing.specs.Freezing.{freezing}
 use Rattle.writing.specs.Writing.{bytesWritten}
-use Rattle.guarantees.specs.Refusals.{Numbered, OutputKept, DoneOr, NoPacketRead, PacketKept, StoreKept, HeaderKept, NothingKept, ListKept, FrameOutputKept, CompactionKept, ThawingKept, StepKept, StreamKept}
+use Rattle.guarantees.specs.Refusals.{Numbered, OutputKept, DoneOr, NoPacketRead, PacketKept, StoreKept, HeaderKept, NothingKept, ListKept, FrameOutputKept, CompactionKept, ThawingKept, StepKept, StreamKept, TableKept, ReplayKept}
+use Rattle.hearing.specs.Bytes.{tableSize}
+use Rattle.hearing.specs.Hearing.{hearing, heardOf, clearing}
+use Rattle.hearing.proofs.Left.{unchanged}
+use Rattle.guarantees.proofs.Replays.{unbegun}
 use Rattle.planning.specs.Planner.{values, planning}
 use Rattle.framing.specs.Framing.{bytesOf}
 
@@ -72,13 +76,14 @@ thawing-kept form s oldList oldOut r list out q e is =
     let l = messagesIn (thawed form s) in
     (output-kept a 0 (entries form 0 0 l) oldList r list (q .answer) (q .list) e is, output-kept a 0 (datagramsOf l) oldOut r out (q .answer) (q .output) e is)
 
-step-by : (a : Answer Extent) (at : ℕ) (bytes old new : List ℕ) (k : ℕ) → a ≡ refused k → new ≡ after a at bytes old → new ≡ old
-step-by (given x) at bytes old new k e p = not-refused e
-step-by (refused j) at bytes old new k e p = p
+-- What follows a refusal, whatever the value would have been.
+kept-by : {A : Type 0} (a : Answer A) (at : ℕ) (bytes old new : List ℕ) (k : ℕ) → a ≡ refused k → new ≡ after a at bytes old → new ≡ old
+kept-by (given x) at bytes old new k e p = not-refused e
+kept-by (refused j) at bytes old new k e p = p
 
 pub step-kept : StepKept
 step-kept form s at old to r new q e is =
-    step-by (nextIn form s at (length old) to) to (foundBytes (messageAt form s at)) old new (numberOf e) (sym (q .answer) ∙ ap stepRead is) (q .output)
+    kept-by (nextIn form s at (length old) to) to (foundBytes (messageAt form s at)) old new (numberOf e) (sym (q .answer) ∙ ap stepRead is) (q .output)
 
 pub stream-kept : StreamKept
 stream-kept form peer p s old start r new q e is =
@@ -93,3 +98,12 @@ pub compaction-kept : CompactionKept
 compaction-kept p s second r edits buffer c e is =
     let a = compacting (lengthsOf s) (length second) p in
     (packet-left a p (r .packet) (r .outcome) (c .answer) (c .packet) e is, output-kept a 0 (liveBytes s p) (s .edits) (r .outcome) edits (c .answer) (c .edits) e is, output-kept a 0 (liveBytes s p) second (r .outcome) buffer (c .answer) (c .buffer) e is)
+
+pub table-kept : TableKept
+table-kept = (
+  λ before m old r left h e is. h .table ∙ unchanged (hearing before old m) m old (numberOf e) (sym (h .answer) ∙ ap heardOf is),
+  λ old r left c e is. kept-by (clearing (length old)) 0 (replicate tableSize 0) old left (numberOf e) (sym (c .answer) ∙ ap outcome is) (c .table),
+)
+
+pub replay-kept : ReplayKept
+replay-kept s table listing r left listed p k e = let u = unbegun s table listing r left listed p k e in (u .count, u .table, u .listing)

@@ -1,5 +1,5 @@
 -- Streams: what is read, and that freezing and thawing undo each other.
-use Prim.Native.Nat.{ℕ, zero, _+_, _*_, _<_, _≤_}
+use Prim.Native.Nat.{ℕ, _+_, _*_, _<_, _≤_}
 use mathlib.Core.Path.{_≡_, refl, sym, ap, subst, _∙_}
 use mathlib.Core.Bool.{true}
 use mathlib.Core.List.{List, [], _∷_, _++_, map, append-assoc}
@@ -49,7 +49,7 @@ use Rattle.guarantees.specs.Streams.{AllAccepted, IsStreamOf, JudgedExac
 use Rattle.guarantees.proofs.StrictReading.{done}
 
 -- A list is strict exactly when each datagram is accepted.
-all-strict : (l : List Frozen) → AllAccepted l → allStrict l ≡ given tt
+pub all-strict : (l : List Frozen) → AllAccepted l → allStrict l ≡ given tt
 all-strict [] a = refl
 all-strict (m ∷ l) a = rw (a .0 .1) (all-strict l (a .1))
 
@@ -57,7 +57,7 @@ all-by : (m : Frozen) (l : List Frozen) (a : Answer Packet) → reading true (m 
 all-by m l (given p) q f e = ((p, q), f e)
 all-by m l (refused k) q f e = not-refused (sym e)
 
-all-accepted : (l : List Frozen) → allStrict l ≡ given tt → AllAccepted l
+pub all-accepted : (l : List Frozen) → allStrict l ≡ given tt → AllAccepted l
 all-accepted [] e = tt
 all-accepted (m ∷ l) e = all-by m l (reading true (m .datagram)) refl (all-accepted l) e
 
@@ -101,7 +101,7 @@ judged-exactly form other s r p = (
 )
 
 -- A refusal that is 19 is BadFreeze.
-is-19 : (r : Strict) → strictlyIn r ≡ refused 19 → r ≡ NoMessages BadFreeze
+pub is-19 : (r : Strict) → strictlyIn r ≡ refused 19 → r ≡ NoMessages BadFreeze
 is-19 (Messages a b c) e = not-refused e
 is-19 (NoMessages x) e = let n : numberOf x ≡ numberOf BadFreeze = same-refused e in ap NoMessages (distinct x BadFreeze n)
 

@@ -7,7 +7,7 @@ use mathlib.Core.List.{List}
 use lib.ListN.{length, getD}
 use denote.Ref.{now}
 use Rattle.rfc.specs.Uint.{uint}
-use Rattle.header.specs.Header.{settingOf, withCode}
+use Rattle.header.specs.Header.{numberOfType, settingOf, withCode}
 use Rattle.option_value.specs.Text.{readText, writeText, textOf}
 use Rattle.code_text.specs.CodeText.{codeIn, codeOf}
 use Rattle.measuring.specs.declared.Limit.the-variants.{Default, Given, Unlimited}
@@ -37,6 +37,13 @@ use Rattle.freezing.specs.Freezing.{Freezes}
 use Rattle.framing.specs.Framing.{Converts}
 use Rattle.converting.specs.Converting.{converted}
 use Rattle.compacting.specs.Compacting.{Compacts}
+use Rattle.hearing.specs.Hearing.{arrival, Hears, Clears}
+use Rattle.stream.specs.Answers.{stepRead}
+use Rattle.tracing.specs.TimedMessages.{formOf, timedAt}
+use Rattle.tracing.specs.Judging.{strictTimedAt, Judges}
+use Rattle.tracing.specs.Answers.{timedRead, timedExtent}
+use Rattle.tracing.specs.Arrivals.{noArrival, arrivalAt, arrivedIn}
+use Rattle.replaying.specs.Replaying.{Replays}
 use Rattle.guarantees.specs.Homes.{HandsBack}
 use Rattle.packet.proofs.Range.part.Reads as PartOf
 use Rattle.packet.proofs.OptionRecord.value.Reads as ValueOf
@@ -88,6 +95,14 @@ use Rattle.peer_reading.specs.Reading.{peerIn, ReadsPeer}
 use Rattle.peers.proofs.put_peer.Reads as PutPeer
 use Rattle.peer_reading.proofs.peer_in.Reads as ReadPeer
 use Rattle.compacting.proofs.compact.Reads as Compact
+use Rattle.hearing.proofs.hear.Reads as HearMessage
+use Rattle.hearing.proofs.clear.Reads as ClearTable
+use Rattle.tracing.proofs.form_of.Reads as FormOf
+use Rattle.tracing.proofs.judge.Reads as JudgeTrace
+use Rattle.tracing.proofs.strict_timed_at.Reads as StrictTimedAt
+use Rattle.tracing.proofs.timed_at.Reads as TimedAt
+use Rattle.tracing.proofs.arrival_at.Reads as ArrivalAt
+use Rattle.replaying.proofs.replay.Reads as ReplayTrace
 use Rattle.header.proofs.Header.set_code.Reads as SetCode
 use Rattle.option_value.proofs.OptionValueU8.try_from.Reads as FromU8
 use Rattle.option_value.proofs.OptionValueU16.try_from.Reads as FromU16
@@ -287,6 +302,32 @@ peer-in k a r x h = h
 -- Compaction.
 compact : (k : _) (a : _) (r : _) (x : _) → Compact.Post k a r x → Compacts (a .0) (stores (now (a .1 .0)) (now (a .1 .1 .0))) (now (a .1 .1 .1 .0)) r (now (x .1 .1 .0)) (now (x .1 .1 .1 .0))
 compact k a r x h = h
+
+-- Messages over a table.
+hear : (k : _) (a : _) (r : _) (x : _) → HearMessage.Post k a r x → Hears (a .1 .0) (arrival (a .1 .1 .0) (numberOfType (a .1 .1 .1 .0)) (a .1 .1 .1 .1 .0) (a .1 .1 .1 .1 .1 .0)) (now (a .0)) r (now (x .0))
+hear k a r x h = h
+
+clear : (k : _) (a : _) (r : _) (x : _) → ClearTable.Post k a r x → Clears (now (a .0)) r (now (x .0))
+clear k a r x h = h
+
+-- Traces, and their replay.
+form-of : (k : _) (a : _) (r : _) (x : _) → FormOf.Post k a r x → r ≡ formOf (now (a .0))
+form-of k a r x h = h
+
+judge-trace : (k : _) (a : _) (r : _) (x : _) → JudgeTrace.Post k a r x → Judges (now (a .0)) r
+judge-trace k a r x h = h
+
+strict-timed-at : (k : _) (a : _) (r : _) (x : _) → StrictTimedAt.Post k a r x → stepRead r ≡ strictTimedAt (a .0) (now (a .1 .0)) (a .1 .1 .0)
+strict-timed-at k a r x h = h
+
+timed-at : (k : _) (a : _) (r : _) (x : _) → TimedAt.Post k a r x → timedRead r ≡ timedExtent (timedAt (a .0) (now (a .1 .0)) (a .1 .1 .0))
+timed-at k a r x h = h
+
+arrival-at : (k : _) (a : _) (r : _) (x : _) → ArrivalAt.Post k a r x → arrivedIn r ≡ beside noArrival (arrivalAt (a .0) (now (a .1 .0)) (a .1 .1 .0))
+arrival-at k a r x h = h
+
+replay : (k : _) (a : _) (r : _) (x : _) → ReplayTrace.Post k a r x → Replays (now (a .0)) (now (a .1 .0)) (now (a .1 .1 .0)) r (now (x .1 .0)) (now (x .1 .1 .0))
+replay k a r x h = h
 
 -- Paths and queries as text.
 write-target : (k : _) (a : _) (r : _) (x : _) → WriteTarget.Post k a r x → WritesTarget (stores (now (a .1 .0)) (now (a .1 .1 .0))) (a .0) (now (a .1 .1 .1 .0)) r (now (x .1 .1 .1 .0))

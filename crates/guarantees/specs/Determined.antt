@@ -33,6 +33,14 @@ use Rattle.uri_text.specs.Tally.{tallied}
 use Rattle.peer_reading.specs.Reading.{peerOf}
 use Rattle.compacting.specs.Compacting.{Compacts}
 use Rattle.compacting.specs.declared.Compacted.{Compacted}
+use Rattle.rfc.specs.Duplicates.{Arrival}
+use Rattle.hearing.specs.Hearing.{heardOf, Hears, Clears}
+use Rattle.hearing.specs.declared.Heard.{Heard}
+use Rattle.tracing.specs.Judging.{judged as traceJudged}
+use Rattle.tracing.specs.Answers.{timedRead}
+use Rattle.tracing.specs.Arrivals.{arrivedIn}
+use Rattle.replaying.specs.Replaying.{Replays}
+use Rattle.replaying.specs.declared.Replayed.{Replayed}
 
 -- Different answers are told differently.
 abbrev pub TellsApart : {A B : Type 0} → (A → B) → Type 0
@@ -77,7 +85,11 @@ pub record Told : Type 0 where
   pub strict-streams : TellsApart strictlyIn
   pub uri-parts : TellsApart judgedRead
   pub uri-texts : TellsApart tallied
+  pub heard : TellsApart heardOf
   pub peers-read : TellsApart peerOf
+  pub traces : TellsApart traceJudged
+  pub timed-messages : TellsApart timedRead
+  pub arrivals : TellsApart arrivedIn
 
 -- So a plan has one verdict; and an image, with what is held of it, one plan in one list.
 abbrev pub OneVerdict : Type 0
@@ -105,3 +117,18 @@ abbrev pub OneCompaction : Type 0
 OneCompaction =
     (p : Packet) (s : Stores) (second : List ℕ) (r q : Compacted) (edits also buffer other : List ℕ) → Compacts p s second r edits buffer
     → Compacts p s second q also other → (r ≡ q) × (edits ≡ also) × (buffer ≡ other)
+
+-- A message over a table has one answer and leaves one table, and so has clearing it.
+abbrev pub OneHearing : Type 0
+OneHearing =
+    (before : ℕ) (m : Arrival) (old : List ℕ) (r q : Heard) (left also : List ℕ) → Hears before m old r left → Hears before m old q also
+    → (r ≡ q) × (left ≡ also)
+
+abbrev pub OneClearing : Type 0
+OneClearing = (old : List ℕ) (r q : Outcome) (left also : List ℕ) → Clears old r left → Clears old q also → (r ≡ q) × (left ≡ also)
+
+-- A replay has one answer, and leaves one table and one listing.
+abbrev pub OneReplay : Type 0
+OneReplay =
+    (s table listing : List ℕ) (r q : Replayed) (left also listed other : List ℕ) → Replays s table listing r left listed
+    → Replays s table listing q also other → (r ≡ q) × (left ≡ also) × (listed ≡ other)

@@ -19,6 +19,8 @@ pub mod Conversions
 pub mod StreamRefusals
 pub mod Peers
 pub mod Compaction
+pub mod Duplicates
+pub mod Replays
 pub mod Plans
 pub mod Samples
 pub mod Targets

@@ -7,7 +7,7 @@ use mathlib.Core.Bool.{true, false}
 use mathlib.Core.List.{List, [], _∷_, _++_}
 use lib.Dec.{T}
 use lib.ListN.{length}
-use Rattle.ground.specs.Part.{Bytes}
+use Rattle.ground.specs.Part.{Bytes, Among}
 use Rattle.ground.specs.Table.{listed}
 use Rattle.rfc.specs.Message.{Opt, Message, layout}
 use Rattle.refusal.specs.Number.{numberOf}
@@ -34,11 +34,6 @@ RefusesWith numbers d = (e : Refusal) × (d .outcome ≡ Refused e) × T (listed
 -- The message that a reader's packet means, beside an edit store.
 abbrev pub said : List ℕ → List ℕ → Decoded → Message
 said s edits d = meaning (stores s edits) (d .packet)
-
--- The option is one of these.
-abbrev pub Among : Opt → List Opt → Type 0
-Among o [] = ⊥
-Among o (p ∷ ps) = (o ≡ p) ⊎ Among o ps
 
 -- The option's value is longer than 65535 bytes.
 abbrev pub Long : Opt → Type 0

@@ -6,9 +6,9 @@ use mathlib.Core.Bool.{Bool, false}
 use mathlib.Core.List.{List, map}
 use mathlib.Core.Logic.{_⊎_}
 use lib.Dec.{T}
-use lib.ListN.{replicate}
+use lib.ListN.{length, replicate}
 use Rattle.ground.specs.Table.{listed}
-use Rattle.refusal.specs.Answer.{Answer, written, after, beside}
+use Rattle.refusal.specs.Answer.{Answer, refused, written, after, beside}
 use Rattle.refusal.specs.Number.{numberOf, refusals, numbers}
 use Rattle.refusal.specs.declared.Refusal.{Refusal}
 use Rattle.refusal.specs.declared.Written.{Written}
@@ -40,6 +40,12 @@ use Rattle.thawing.specs.Thawing.{Thaws}
 use Rattle.freezing.specs.Freezing.{Freezes}
 use Rattle.compacting.specs.Compacting.{Compacts}
 use Rattle.compacting.specs.declared.Compacted.{Compacted}
+use Rattle.rfc.specs.Duplicates.{Arrival}
+use Rattle.hearing.specs.Hearing.{Hears, Clears}
+use Rattle.hearing.specs.declared.Heard.{Heard}
+use Rattle.hearing.specs.declared.Heard.the-variants.{Refused as NotHeard}
+use Rattle.replaying.specs.Replaying.{begins, Replays}
+use Rattle.replaying.specs.declared.Replayed.{Replayed}
 
 -- A refusal's number is one of those that there are, and each of those is a refusal's.
 abbrev pub Numbered : Type 0
@@ -110,3 +116,17 @@ abbrev pub CompactionKept : Type 0
 CompactionKept =
     (p : Packet) (s : Stores) (second : List ℕ) (r : Compacted) (edits buffer : List ℕ) → Compacts p s second r edits buffer
     → (e : Refusal) → r .outcome ≡ Refused e → (r .packet ≡ p) × (edits ≡ s .edits) × (buffer ≡ second)
+
+-- A refused message leaves the table as it was, and so does a refused clearing.
+abbrev pub TableKept : Type 0
+TableKept =
+    ((before : ℕ) (m : Arrival) (old : List ℕ) (r : Heard) (left : List ℕ) → Hears before m old r left
+    → (e : Refusal) → r ≡ NotHeard e → left ≡ old)
+    × ((old : List ℕ) (r : Outcome) (left : List ℕ) → Clears old r left → (e : Refusal) → r ≡ Not e → left ≡ old)
+
+-- A replay that is refused before it begins lists nothing, and leaves table and listing as they were. (What one leaves that a message
+-- ends is said of replays.)
+abbrev pub ReplayKept : Type 0
+ReplayKept =
+    (s table listing : List ℕ) (r : Replayed) (left listed : List ℕ) → Replays s table listing r left listed
+    → (k : ℕ) → begins s (length table) ≡ refused k → (r .count ≡ 0) × (left ≡ table) × (listed ≡ listing)

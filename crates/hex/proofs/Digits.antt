@@ -1,7 +1,7 @@
 -- Laws of hexadecimal digits in a text: what each is worth, and the bytes that pairs of them stand for.
 use Prim.Native.Nat.{ℕ, zero, suc, _+_, _-_, _*_, _/_, _%_, _<_, _≤_}
 use mathlib.Core.Path.{_≡_, refl}
-use mathlib.Core.Bool.{Bool, true, false}
+use mathlib.Core.Bool.{true, false}
 use mathlib.Core.List.{List, [], _∷_}
 use native.Mathlib.Numerals.{add-one}
 use native.Mathlib.Omega.{arith}
@@ -9,7 +9,7 @@ use lib.Dec.{ltb, eqb}
 use lib.ListN.{length, drop, getD, length-drop, drop-of-length-le}
 use lib.Seq.{drop-cons}
 use borrow.Author.Tests.{le-leb, lt-leb, lt-ltb, le-ltb, ltb-true}
-use Rattle.ground.specs.Choice.{both}
+use Rattle.ground.proofs.Choice.{both-true}
 use Rattle.hex.specs.Hex.{hexDigits, hex, digitOf, allDigits, isHex, pairs}
 
 -- A decimal digit, a letter, and any other byte.
@@ -45,17 +45,13 @@ of-above b h =
     rw (le-leb 48 b low, lt-leb b 57 high, le-leb 97 b letter, lt-leb b 102 h)
 
 -- A hexadecimal text is digits alone, and each of them is one.
-both-hold : (a b : Bool) → both a b ≡ true → (a ≡ true) × (b ≡ true)
-both-hold true b e = (refl, e)
-both-hold false b e = (e, cc)
-
 pub hex-digits : (s : List ℕ) → isHex s ≡ true → allDigits s ≡ true
-hex-digits s e = both-hold (allDigits s) (eqb (length s % 2) 0) e .0
+hex-digits s e = both-true (allDigits s) (eqb (length s % 2) 0) e .0
 
 pub digit-at : (s : List ℕ) (i : ℕ) → allDigits s ≡ true → i < length s → digitOf (getD s i 0) < 16
 digit-at [] i d h = absurd (omega arith)
-digit-at (b ∷ s) zero d h = ltb-true (digitOf b) 16 (both-hold (ltb (digitOf b) 16) (allDigits s) d .0)
-digit-at (b ∷ s) (suc i) d h = digit-at s i (both-hold (ltb (digitOf b) 16) (allDigits s) d .1) (omega arith)
+digit-at (b ∷ s) zero d h = ltb-true (digitOf b) 16 (both-true (ltb (digitOf b) 16) (allDigits s) d .0)
+digit-at (b ∷ s) (suc i) d h = digit-at s i (both-true (ltb (digitOf b) 16) (allDigits s) d .1) (omega arith)
 
 -- A digit at a place, and a byte there that is none.
 pub all-more : (s : List ℕ) (i : ℕ) → i < length s → digitOf (getD s i 0) < 16 → allDigits (drop i s) ≡ allDigits (drop (i + 1) s)

@@ -1,6 +1,6 @@
 -- Addresses of RFC 4291, section 2.2, and texts that are none.
 use mathlib.Core.Path.{_≡_, refl}
-use mathlib.Core.List.{List, [], _∷_, _++_}
+use mathlib.Core.List.{[], _∷_, _++_}
 use lib.ListN.{replicate}
 use Rattle.rfc.specs.Percent.{hexValue}
 use Rattle.refusal.specs.Answer.{given, refused}

@@ -12,7 +12,7 @@ use Rattle.refusal.specs.declared.Outcome.{Outcome}
 use Rattle.refusal.specs.declared.Outcome.the-variants.{Done, Refused as Not}
 use Rattle.refusal.specs.Number.{numberOf, refusals, numbers}
 use Rattle.refusal.specs.declared.Refusal.{Refusal}
-use Rattle.refusal.specs.declared.Refusal.the-variants.{InvalidHeader, InvalidTokenLength, InvalidOptionDelta, InvalidOptionLength, InvalidPacketLength, TooManyOptions, WrongVersion, EmptyCarries, MarkerAlone, TooLong, BadRecord, NoRoom, BadUint, BadBlockSize, BadText, BadOption, BlockNumber, BadFreeze, BadFrame, BadPlan}
+use Rattle.refusal.specs.declared.Refusal.the-variants.{InvalidHeader, InvalidTokenLength, InvalidOptionDelta, InvalidOptionLength, InvalidPacketLength, TooManyOptions, WrongVersion, EmptyCarries, MarkerAlone, TooLong, BadRecord, NoRoom, BadUint, BadBlockSize, BadText, BadOption, BlockNumber, BadFreeze, BadFrame, ClockBack, BadPlan}
 
 -- The first of these refusals that has a number.
 among : List Refusal → ℕ → Refusal
@@ -41,6 +41,7 @@ known BadOption = (refl, tt)
 known BlockNumber = (refl, tt)
 known BadFreeze = (refl, tt)
 known BadFrame = (refl, tt)
+known ClockBack = (refl, tt)
 known BadPlan = (refl, tt)
 
 pub distinct : (a b : Refusal) → numberOf a ≡ numberOf b → a ≡ b

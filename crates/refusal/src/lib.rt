@@ -33,7 +33,8 @@ pub enum Refusal {
     BadRecord,
     // The output, or the edit store after the named start, is shorter than the bytes to write, or the start is past its end.
     // The lent list is shorter than our plan, or than three numbers for each message of a stream. Compaction: the live bytes
-    // are more than the edit store or the second buffer holds.
+    // are more than the edit store or the second buffer holds. A message heard: the table is under 1,600 bytes, or holds 64
+    // unexpired entries when it is new. A replay: the listing has no place for the next message.
     NoRoom,
     // The value has more bytes than the width; of a strict block more than 3.
     BadUint,
@@ -48,10 +49,13 @@ pub enum Refusal {
     BadOption,
     // A block number over 65535 plain, over 1,048,575 strict.
     BlockNumber,
-    // A record, an order of records or a message's length, anywhere in a freeze stream, that its form doesn't have.
+    // A record, an order of records or a message's length, anywhere in a freeze stream, that its form doesn't have. In a trace
+    // also a time that is missing or out of place.
     BadFreeze,
     // A frame has fewer bytes than its two nibbles call for, or more.
     BadFrame,
+    // A message's time is less than that of the message before it, whatever the types of the two.
+    ClockBack,
     // A plan that isn't accepted. For the check and for the planner: an image of 0 bytes or of more than 1,048,576, or a held
     // list that hasn't one byte for each unit of 16 bytes.
     BadPlan,
@@ -82,6 +86,7 @@ impl Refusal {
             Refusal::BlockNumber => 17,
             Refusal::BadFreeze => 19,
             Refusal::BadFrame => 20,
+            Refusal::ClockBack => 21,
             Refusal::BadPlan => 22,
         }
     }

@@ -118,6 +118,65 @@ pub fn fill(fd: i32, window: &mut [u8], waiting: usize) -> Filled {
     }
 }
 
+// What of an input stands in a window, from where to where; whether the input ends with it, and whether reading failed; and how often
+// the window was filled.
+pub struct View {
+    pub start: usize,
+    pub end: usize,
+    pub ended: bool,
+    pub failed: bool,
+    pub windows: u64,
+}
+
+impl View {
+    // Before anything is read.
+    pub fn start() -> View {
+        View {
+            start: 0,
+            end: 0,
+            ended: false,
+            failed: false,
+            windows: 0,
+        }
+    }
+
+    // What is left from a position on.
+    pub fn from(self, start: usize) -> View {
+        View {
+            start,
+            end: self.end,
+            ended: self.ended,
+            failed: self.failed,
+            windows: self.windows,
+        }
+    }
+
+    // Whether at least so many bytes are in view, or all that the input has left.
+    fn has(self, least: usize) -> bool {
+        if self.ended || self.end < self.start {
+            return true;
+        }
+        least <= self.end - self.start
+    }
+}
+
+// The same with at least so many bytes in view, or all that the input has left: where they aren't, what is in view goes to the front
+// of the window, and the rest of it is filled.
+pub fn viewed(fd: i32, window: &mut [u8], view: View, least: usize) -> View {
+    if view.has(least) {
+        return view;
+    }
+    let waiting = moved_to_front(window, view.start, view.end);
+    let filled = fill(fd, window, waiting);
+    View {
+        start: 0,
+        end: filled.count,
+        ended: filled.ended,
+        failed: filled.failed,
+        windows: std::num::wrapping_add_u64(view.windows, 1),
+    }
+}
+
 // Moves what stands between two positions to the front, and answers how much that is.
 pub fn moved_to_front(window: &mut [u8], start: usize, end: usize) -> usize {
     if end < start {

@@ -2,6 +2,7 @@ mod Sample
 mod WellFormedExamples
 mod LayoutExamples
 mod FrameExamples
+mod DuplicateExamples
 mod UintExamples
 mod BlockExamples
 mod TextExamples
@@ -10,6 +11,7 @@ mod RecognisedExamples
 mod UriExamples
 pub mod Message
 pub mod Frame
+pub mod Duplicates
 pub mod Uint
 pub mod Block
 pub mod Uri

@@ -1,5 +1,6 @@
 pub mod Message
 pub mod Frame
+pub mod Duplicates
 pub mod Uint
 pub mod Block
 pub mod Text

@@ -39,7 +39,7 @@ only-body form s (suc fuel) before at =
     (λ l. refusing-onward (λ k. k ≡ 19) (chunkAt form s at) _ (only-chunk form s at)
     (λ n. refusing-onward (λ k. k ≡ 19) (bodyAt form s fuel n (chunkEnd form at n)) _ (only-body form s fuel n (chunkEnd form at n)) (λ b. tt))))
 
-only-message : (form : Form) (s : List ℕ) (at : ℕ) → Only19 (messageAt form s at)
+pub only-message : (form : Form) (s : List ℕ) (at : ℕ) → Only19 (messageAt form s at)
 unfolding messageAt sizedBody
 only-message form s at =
     on-eq Only19 (getD s at 0) 1

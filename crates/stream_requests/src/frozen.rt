@@ -11,10 +11,10 @@ use rooms::are_before;
 use rooms::fill;
 use stream::Form;
 use words::NOWHERE;
-use words::bytes_at;
 use words::finished;
 use words::number_at;
 use words::part;
+use words::peer_at;
 
 // freeze FORM ROOM START PEER PACKET
 pub fn answer(
@@ -64,22 +64,6 @@ fn freeze_in<'a>(
     fill(stream);
     let written = freeze(form, peer, packet, datagram, edits, stream, from);
     put(written, stream, from, out, place)
-}
-
-// A peer's bytes, and where its word ends.
-struct Peer {
-    bytes: [u8; 18],
-    next: usize,
-}
-
-// PEER is HEX of 18 bytes.
-fn peer_at(line: &[u8], at: usize) -> Peer {
-    let mut bytes = [0u8; 18];
-    let got = bytes_at(line, at, b' ', &mut bytes, 0);
-    Peer {
-        bytes,
-        next: if got.end == 18 { got.next } else { NOWHERE },
-    }
 }
 
 // Puts what was written from a place of the stream on, and whether every other byte is as it was before.

@@ -1,12 +1,12 @@
 -- Bytes put into the edit store: a range that they do not touch names what it named, and their own range names them.
-use Prim.Native.Nat.{ℕ, suc, _+_, _-_, _≤_}
-use mathlib.Core.Path.{_≡_, refl, ap, _∙_}
-use mathlib.Core.List.{List, [], _∷_, _++_, map, append-assoc}
+use Prim.Native.Nat.{ℕ, _+_, _≤_}
+use mathlib.Core.Path.{_≡_, refl, ap}
+use mathlib.Core.List.{List, [], _∷_, map}
 use mathlib.Core.Logic.{_⊎_, ⊎-elim}
-use native.Mathlib.Omega.{arith}
-use lib.ListN.{length, take, drop, set}
-use lib.Seq.{sets, sets-eq, length-sets, drop-set-lt, drop-set-add, take-set-le, take-at, drop-at, length-take-le}
+use lib.ListN.{length, take, drop}
+use lib.Seq.{sets, length-sets}
 use borrow.Author.Tests.{le-leb}
+use Rattle.ground.proofs.Part.{part-before, part-after, part-put}
 use Rattle.packet.specs.Packet.{chosen, Stores, stores, storeOf, bytesIn, bytesOf, rangeOf, recordsOf}
 use Rattle.packet.specs.Meaning.{optionOf, meaning}
 use Rattle.packet.specs.declared.Packet.{Packet}
@@ -15,19 +15,6 @@ use Rattle.packet.specs.declared.Range.{Range}
 use Rattle.packet.specs.declared.Home.{Home}
 use Rattle.packet.specs.declared.Home.the-variants.{Datagram, Edits}
 use Rattle.typed_options.specs.Apart.{Apart, AllApart, Untouched}
-
--- A part that ends before the first byte, and a part that starts after the last.
-part-before : (vs l : List ℕ) (i from size : ℕ) → from + size ≤ i → take size (drop from (sets l i vs)) ≡ take size (drop from l)
-part-before [] l i from size h = refl
-part-before (v ∷ vs) l i from size h =
-    let e : i ≡ from + (i - from) = omega arith in
-    part-before vs (set l i v) (suc i) from size (omega arith)
-    ∙ (ap (λ (k : ℕ). take size (drop from (set l k v))) e
-    ∙ (ap (take size) (drop-set-add from l (i - from) v) ∙ take-set-le size (drop from l) (i - from) v (omega arith)))
-
-part-after : (vs l : List ℕ) (i from : ℕ) → i + length vs ≤ from → drop from (sets l i vs) ≡ drop from l
-part-after [] l i from h = refl
-part-after (v ∷ vs) l i from h = part-after vs (set l i v) (suc i) from (omega arith) ∙ drop-set-lt from l i v (omega arith)
 
 module _ (old : List ℕ) (start : ℕ) (bytes : List ℕ) where
   apart-in : (from size : ℕ) → (from + size ≤ start) ⊎ (start + length bytes ≤ from) → bytesIn (sets old start bytes) from size ≡ bytesIn old from size
@@ -41,11 +28,7 @@ module _ (old : List ℕ) (start : ℕ) (bytes : List ℕ) where
   unfolding bytesIn
   own-bytes h =
       let inside : start + length bytes ≤ length (sets old start bytes) = rw length-sets h in
-      let rest = drop (start + length bytes) old in
-      let before : length (take start old) ≡ start = length-take-le start old (omega arith) in
-      rw (le-leb (start + length bytes) (length (sets old start bytes)) inside)
-      (ap (λ (l : List ℕ). take (length bytes) (drop start l)) (sets-eq bytes old start h ∙ append-assoc (take start old) bytes rest)
-      ∙ (ap (take (length bytes)) (drop-at (take start old) (bytes ++ rest) start before) ∙ take-at bytes rest (length bytes) refl))
+      rw (le-leb (start + length bytes) (length (sets old start bytes)) inside) (part-put old start bytes h)
 
   -- The bytes of a range, the options of records, and the whole meaning, beside any datagram.
   module _ (d : List ℕ) where

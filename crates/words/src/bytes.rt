@@ -89,3 +89,19 @@ fn place_after(place: usize, count: usize) -> usize {
     }
     place + count
 }
+
+// A peer's bytes, and where its word ends.
+pub struct Peer {
+    pub bytes: [u8; 18],
+    pub next: usize,
+}
+
+// The hexadecimal digits of a peer's 18 bytes.
+pub fn peer_at(line: &[u8], at: usize) -> Peer {
+    let mut bytes = [0u8; 18];
+    let got = bytes_at(line, at, b' ', &mut bytes, 0);
+    Peer {
+        bytes,
+        next: if got.end == 18 { got.next } else { NOWHERE },
+    }
+}

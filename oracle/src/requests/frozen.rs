@@ -6,7 +6,7 @@ use crate::freezing::{frozen, Form};
 use crate::words::{hex, MOST_ROOM, MOST_VALUES};
 
 /// Sizes of a message beside which the count of its chunks changes, or it is too long; few are so long.
-const SIZES: [usize; 6] = [4, 30, 60, 63, 65, 128];
+pub const SIZES: [usize; 6] = [4, 30, 60, 63, 65, 128];
 const LONG_SIZES: [usize; 4] = [1_152, 1_216, 1_260, 1_280];
 
 /// Bytes that are kinds, counts, or neither.
@@ -14,7 +14,7 @@ const TELLING: [u8; 16] =
     [0x00, 0x01, 0x02, 0x03, 0x04, 0x08, 0x1d, 0x1e, 0x1f, 0x40, 0x80, 0x81, 0x84, 0xbf, 0xc0, 0xff];
 
 /// The word of a form, and the form.
-const FORMS: [(&str, Form); 2] = [("old", Form::Old), ("new", Form::New)];
+pub const FORMS: [(&str, Form); 2] = [("old", Form::Old), ("new", Form::New)];
 
 impl Varied {
     pub fn freeze(&mut self) -> String {
@@ -97,7 +97,7 @@ impl Varied {
     }
 
     /// A good datagram of a size beside one of some.
-    fn sized(&mut self, sizes: &[usize]) -> Vec<u8> {
+    pub fn sized(&mut self, sizes: &[usize]) -> Vec<u8> {
         let mut datagram = vec![0x40, 0x01, self.random.byte(), self.random.byte(), 0xff];
         let size = self.random.near(sizes);
         datagram.resize(size, 0x61);
@@ -116,8 +116,8 @@ impl Varied {
         (places, room)
     }
 
-    /// A stream with a record too few, too many, changed or out of place, or with its end cut off.
-    fn damaged_stream(&mut self, stream: &[u8]) -> Vec<u8> {
+    /// A stream or a trace with a record too few, too many, changed or out of place, or with its end cut off.
+    pub fn damaged_stream(&mut self, stream: &[u8]) -> Vec<u8> {
         let mut records = split(stream);
         records.push(vec![self.random.of(&TELLING)]);
         let at = self.random.below(records.len());
@@ -143,7 +143,7 @@ impl Varied {
     }
 }
 
-/// The records of a good stream.
+/// The records of a good stream or trace.
 fn split(stream: &[u8]) -> Vec<Vec<u8>> {
     let mut records = Vec::new();
     let mut rest = stream;
@@ -152,6 +152,7 @@ fn split(stream: &[u8]) -> Vec<Vec<u8>> {
             1 => 19,
             2 => 32,
             4 => 65,
+            8 => 5,
             129..=191 => usize::from(kind - 127),
             _ => 1,
         };
@@ -204,12 +205,12 @@ fn kinds() -> Vec<Vec<u8>> {
     vec![peer, old_full, old_short, old_single, new_full, new_short, new_single, vec![3], vec![0x80], new(0xc0, &full)]
 }
 
-fn joined(kinds: &[Vec<u8>], string: &[u8]) -> Vec<u8> {
+pub fn joined(kinds: &[Vec<u8>], string: &[u8]) -> Vec<u8> {
     string.iter().flat_map(|&kind| kinds[usize::from(kind)].clone()).collect()
 }
 
 /// Each byte of a stream as each telling one, left out, doubled, or the first to be cut off.
-fn each_change(stream: &[u8], take: &mut dyn FnMut(&[u8])) {
+pub fn each_change(stream: &[u8], take: &mut dyn FnMut(&[u8])) {
     for at in 0..stream.len() {
         let (before, behind) = stream.split_at(at);
         TELLING.iter().for_each(|&byte| take(&[before, &[byte], &behind[1..]].concat()));

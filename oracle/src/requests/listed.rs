@@ -56,14 +56,16 @@ fn listed(list: &str, put: &mut dyn FnMut(String)) {
     }
 }
 
-/// A line in which `{61*9}` stands for nine times `61`, and `{#:-,*3}` for `1:-,2:-,3:-,`.
+/// A line in which `{61*9}` stands for nine times `61`, `{#:-,*3}` for `1:-,2:-,3:-,` and `{%ff*3}` for `01ff02ff03ff`.
 fn spelled(line: &str) -> String {
     let mut spelled = String::new();
     for (at, part) in line.split(['{', '}']).enumerate() {
         match part.rsplit_once('*') {
             Some((text, times)) if at % 2 == 1 => {
                 let times: usize = times.parse().expect("a number of times");
-                (1..=times).for_each(|time| spelled.push_str(&text.replace('#', &time.to_string())));
+                for time in 1..=times {
+                    spelled.push_str(&text.replace('#', &time.to_string()).replace('%', &format!("{time:02x}")));
+                }
             }
             _ => spelled.push_str(part),
         }

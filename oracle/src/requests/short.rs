@@ -1,6 +1,6 @@
 //! Every short input of every kind.
 
-use super::{frozen, planned, ranged, typed};
+use super::{frozen, planned, ranged, traced, typed};
 use crate::register::lengths;
 use crate::words::{class_word, hex, named_classes};
 use coap_lite::MessageClass;
@@ -34,6 +34,7 @@ pub fn strict(put: &mut dyn FnMut(String)) {
     frames(put);
     ranged::small(put);
     frozen::small(put);
+    traced::small(put);
     typed::small(put);
 }
 

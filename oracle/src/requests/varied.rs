@@ -60,7 +60,7 @@ impl Varied {
         if self.made % LONG == 1 && self.made / LONG < LONG_MOST {
             return self.long_strict();
         }
-        match self.random.below(52) {
+        match self.random.below(58) {
             0..=4 => {
                 let parts = self.registered();
                 format!("register {}", self.homed(&parts))
@@ -77,6 +77,8 @@ impl Varied {
             36..=38 => self.thaw(),
             39 | 40 => self.convert(),
             41..=47 => self.target(),
+            48..=51 => self.replay(),
+            52 | 53 => self.hear(),
             _ => self.block_strict(),
         }
     }
@@ -537,13 +539,14 @@ impl Varied {
         self.write_of(&parts)
     }
 
-    /// A datagram, a store, a value, an image or a frame beside the longest.
+    /// A datagram, a store, a value, an image or a frame beside the longest, or a long trace.
     fn long_strict(&mut self) -> String {
         let mut parts = self.parts();
         let aim = self.random.near(&[STORE]);
-        match self.random.below(8) {
+        match self.random.below(9) {
             0 => return self.long_plan(),
             1 | 2 => return self.long_frame(),
+            3 => return self.long_replay(),
             _ => (),
         }
         if self.random.one_in(3) {
