@@ -14,8 +14,9 @@ use Rattle.option_value.specs.Uint.{Padded}
 use Rattle.block_value.specs.Answers.{built}
 use Rattle.block_value.specs.Size.{sizeUpTo}
 use Rattle.block_value.specs.Strict.{strictReading}
+use Rattle.block_value.proofs.Distinct.{one-built, one-block-read, one-sized}
 use Rattle.block_value.proofs.StrictLaws.{Read, read, only-read, one-read, sent, written-back, made}
-use Rattle.guarantees.specs.Blocks.{IsValueOf, BlocksRead, BlocksWritten, Built, BlocksBuilt}
+use Rattle.guarantees.specs.Blocks.{IsValueOf, BlocksRead, BlocksWritten, Built, BlocksBuilt, ToldApart}
 
 -- The rule of padded uints, and the value of a block.
 to-value : (value : List ℕ) (b : Padded Block) → Read value b → IsValueOf value b
@@ -50,3 +51,11 @@ pub blocks-built : BlocksBuilt
 blocks-built num more asked r b answer is =
     let m = made num more asked b (sym answer ∙ is) in
     record { valid = m .valid; num = m .num; more = m .more; exact = sized (b .szx) asked (m .size) }
+
+pub told-apart : ToldApart
+told-apart =
+    record {
+      blocks = one-built;
+      blocks-read = one-block-read;
+      block-sizes = one-sized;
+    }

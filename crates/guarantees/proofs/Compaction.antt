@@ -9,9 +9,11 @@ use lib.ListN.{length, take, drop, take-append-drop}
 use lib.Seq.{take-at, drop-at}
 use Rattle.ground.proofs.Choice.{on-le}
 use Rattle.rfc.specs.Message.{Message, layout}
-use Rattle.refusal.specs.Answer.{given, after}
+use Rattle.refusal.specs.Answer.{Answer, given, refused, written, after}
+use Rattle.refusal.specs.declared.Refusal.{Refusal}
 use Rattle.refusal.specs.declared.Written.{Written}
-use Rattle.refusal.specs.declared.Written.the-variants.{Length}
+use Rattle.refusal.specs.declared.Written.the-variants.{Length, Refused}
+use Rattle.refusal.proofs.Answers.{not-refused}
 use Rattle.refusal.proofs.Distinct.{one-written}
 use Rattle.class.specs.declared.MessageClass.{MessageClass}
 use Rattle.class.specs.declared.MessageClass.the-variants.{Empty, Request, Response, Reserved}
@@ -30,12 +32,14 @@ use Rattle.measuring.proofs.Sizes.{measured-good}
 use Rattle.writing.specs.Writing.{sent, bytesWritten, writing, ToBytes}
 use Rattle.writing.proofs.Answers.{writing-measured}
 use Rattle.typed_options.specs.Apart.{AllApart, Untouched}
-use Rattle.compacting.specs.Compacting.{liveBytes, valuesLength, relaid, relocated, compacting, Compacts}
+use Rattle.compacting.specs.Compacting.{liveBytes, valuesLength, relaid, relocated, compacting, packetBeside, Compacts}
 use Rattle.compacting.specs.declared.Compacted.{Compacted}
 use Rattle.compacting.proofs.Relaid.{relaid-size, relocated-records, relocated-again}
 use Rattle.compacting.proofs.Kept.{meaning-kept}
 use Rattle.compacting.proofs.Done.{Done, done, counted, short-then, good-then, again, live-then}
-use Rattle.guarantees.specs.Compaction.{GivesBack, Compaction}
+use Rattle.guarantees.specs.Compaction.{GivesBack, Compaction, CompactionLeaves, CompactionKept, OneCompaction}
+use Rattle.guarantees.proofs.Homes.{frozen-stays}
+use Rattle.guarantees.proofs.Refusals.{output-kept}
 
 -- Records relaid up to a place are apart from what is put there or after it.
 relaid-apart : (start len at : ℕ) (rs : List OptionRecord) → at + valuesLength rs ≤ start → AllApart start len (relaid at rs)
@@ -147,3 +151,22 @@ module _ (p : Packet) (shaped : Shaped p) (s : Stores) (second : List ℕ) (r : 
 
 pub compaction : Compaction
 compaction = gives-back
+
+pub compaction-leaves : CompactionLeaves
+compaction-leaves p s second r edits buffer promise range e = frozen-stays (s .datagram) (s .edits) edits range e
+
+-- What stands beside a refused compaction is the packet as it came.
+packet-left : (a : Answer ℕ) (p q : Packet) (r : Written) → written r ≡ a → q ≡ packetBeside a p → (e : Refusal) → r ≡ Refused e → q ≡ p
+packet-left (given n) p q r w s e is = not-refused (sym w ∙ ap written is)
+packet-left (refused k) p q r w s e is = s
+
+pub compaction-kept : CompactionKept
+compaction-kept p s second r edits buffer c e is =
+    let a = compacting (lengthsOf s) (length second) p in
+    (packet-left a p (r .packet) (r .outcome) (c .answer) (c .packet) e is, output-kept a 0 (liveBytes s p) (s .edits) (r .outcome) edits (c .answer) (c .edits) e is, output-kept a 0 (liveBytes s p) second (r .outcome) buffer (c .answer) (c .buffer) e is)
+
+pub one-compaction : OneCompaction
+one-compaction p s second r q edits also buffer other c x =
+    let outcome = one-written (r .outcome) (q .outcome) (c .answer ∙ sym (x .answer)) in
+    let packet = c .packet ∙ sym (x .packet) in
+    (λ k. record { outcome = outcome k; packet = packet k }, c .edits ∙ sym (x .edits), c .buffer ∙ sym (x .buffer))

@@ -3,22 +3,25 @@ use Prim.Native.Nat.{ℕ}
 use mathlib.Core.Path.{_≡_, ap, subst, sym, _∙_}
 use mathlib.Core.List.{List, [], _∷_}
 use Rattle.rfc.specs.Uint.{uint}
-use Rattle.refusal.specs.Answer.{Answer, given, outcome, after}
+use Rattle.refusal.specs.Answer.{Answer, given, refused, outcome, after}
+use Rattle.refusal.specs.Number.{numberOf}
 use Rattle.refusal.specs.declared.Outcome.the-variants.{Done}
-use Rattle.refusal.proofs.Answers.{was-given}
+use Rattle.refusal.proofs.Answers.{was-given, was-refused, not-refused}
 use Rattle.packet.specs.Packet.{stores}
 use Rattle.packet.specs.Meaning.{meaning}
 use Rattle.packet.specs.declared.Packet.{Packet}
 use Rattle.splicing.specs.Edited.{edited, Edits}
 use Rattle.splicing.specs.Splice.{rangesIn, homed}
 use Rattle.splicing.specs.declared.Edited.{Edited}
+use Rattle.splicing.proofs.Distinct.{one-edited}
 use Rattle.editing.specs.Edit.{tokenSet, payloadSet, added, optionSet, cleared, clearedAll}
 use Rattle.editing.specs.Message.{optionAdded, optionsSet}
 use Rattle.editing.proofs.Made.{made-homed, added-order, set-order, cleared-order, empty-order, token-order, payload-order}
 use Rattle.editing.proofs.Meaning.{meaning-token, meaning-payload, meaning-added, meaning-cleared, meaning-empty, meaning-set}
 use Rattle.typed_options.specs.Setters.{formatSet, observeSet}
 use Rattle.typed_options.proofs.Values.{meaning-format, meaning-observe}
-use Rattle.guarantees.specs.Edits.{EditsMean, SettersMean}
+use Rattle.guarantees.specs.Edits.{EditsMean, SettersMean, PacketKept, StoreKept, ToldApart}
+use Rattle.guarantees.proofs.Refusals.{besides}
 
 -- An edit that is done has given its packet.
 done : (p : Packet) (a : Answer Packet) (r : Edited) → Edits p a r → r .outcome ≡ Done → a ≡ given (r .packet)
@@ -54,3 +57,13 @@ setters-mean p start n old r new =
           let store = e .store ∙ ap (λ (a : Answer Packet). after a start (uint 4 n) old) g in
           subst (λ (l : List ℕ). meaning (stores d l) (r .packet) ≡ optionsSet (meaning (stores d old) p) 6 (uint 4 n ∷ [])) (sym store) (meaning-observe d old start n p (r .packet) g u);
     }
+
+pub packet-kept : PacketKept
+packet-kept a old r q = besides (r .outcome) (r .packet) old a q
+
+pub store-kept : StoreKept
+store-kept (given p) old r start bytes store new q e is = not-refused (was-refused old (given p) _ (q .answer) (numberOf e) (ap outcome is))
+store-kept (refused k) old r start bytes store new q e is = q .store
+
+pub told-apart : ToldApart
+told-apart = record { edits = one-edited }

@@ -5,7 +5,7 @@ use Rattle.packet.specs.Packet.{chosen}
 use Rattle.packet.specs.declared.Home.{Home}
 use Rattle.packet.specs.declared.Home.the-variants.{Datagram, Edits}
 use Rattle.typed_options.proofs.Stays.{range-stays}
-use Rattle.guarantees.specs.Homes.{PartOfItsHome, FrozenStays, SetterLeaves, CompactionLeaves, TextLeaves}
+use Rattle.guarantees.specs.Homes.{PartOfItsHome, FrozenStays, SetterLeaves}
 
 piece : (h : Home) (d e : ℕ × ℕ) → chosen h d e .0 ≡ chosen h (d .0) (e .0)
 piece Datagram d e = refl
@@ -19,9 +19,3 @@ frozen-stays datagram old new r e = rw e refl
 
 pub setter-leaves : SetterLeaves
 setter-leaves datagram old new p a start bytes e promise r h = range-stays p a start bytes old e new promise datagram r h
-
-pub compaction-leaves : CompactionLeaves
-compaction-leaves p s second r edits buffer promise range e = frozen-stays (s .datagram) (s .edits) edits range e
-
-pub text-leaves : TextLeaves
-text-leaves datagram text start old r new promise range e = frozen-stays datagram old new range e

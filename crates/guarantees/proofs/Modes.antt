@@ -28,8 +28,9 @@ use Rattle.reading.specs.Reading.{FromBytes, decoded, afterHeader, reading}
 use Rattle.reading.specs.declared.Decoded.{Decoded}
 use Rattle.reading.proofs.Longest.{valuesWithin}
 use Rattle.reading.proofs.Modes.{readAgain, Seen, seen}
-use Rattle.guarantees.specs.Modes.{Accepts, Refuses, RefusesWith, said, Long, HasLong, BareMarker, Cause, Modes, Exactly, TwoModes, RefusedApart}
+use Rattle.guarantees.specs.Modes.{Accepts, Refuses, RefusesWith, said, Long, HasLong, BareMarker, Cause, Modes, Exactly, TwoModes, RefusedApart, NoPacketRead}
 use Rattle.guarantees.proofs.StrictReading.{done, gives}
+use Rattle.guarantees.proofs.Refusals.{besides}
 
 -- Where not every value is within 65535, one is longer; and where one is, not every value is.
 some-long : (os : List Opt) → valuesWithin maxPlainValue os ≡ false → (o : Opt) × Among o os × Long o
@@ -156,3 +157,6 @@ two-modes s edits b plain strict p q = (modes s edits b plain strict p q, exactl
 pub refused-apart : RefusedApart
 unfolding reading rawIn afterHeader
 refused-apart plain strict p q = (refuses-with (2 ∷ []) plain (refused 2) p tt, refuses-with (7 ∷ []) strict (refused 7) q tt)
+
+pub no-packet-read : NoPacketRead
+no-packet-read strict s d q = besides (d .outcome) (d .packet) newPacket (reading strict s) q

@@ -13,17 +13,19 @@ use Rattle.refusal.specs.Answer.{Answer, given, refused, onward, written}
 use Rattle.option_value.specs.Uint.{leadingZeros, padded, readUint}
 use Rattle.option_value.proofs.Padding.{one-pads, pads-length}
 use Rattle.option_value.proofs.Uints.{read-pads, pads-read, output-then-read}
+use Rattle.option_value.proofs.Distinct.{one-uint, one-u8, one-u16, one-u32, one-u64}
 use Rattle.block_value.proofs.PlainLaws.{plain-pads}
 use Rattle.block_value.proofs.StrictLaws.{read}
 use Rattle.tables.specs.Numbers.{contentFormats}
 use Rattle.packet.specs.Packet.{recordsOf, ofNumber, valueOf}
 use Rattle.packet.specs.declared.OptionRecord.{OptionRecord}
 use Rattle.typed_options.specs.Getters.{onFirst, Found, number as found, absent, formatOf, formatIn, observed, observeIn}
+use Rattle.typed_options.proofs.Distinct.{one-observe}
 use Rattle.typed_options.specs.declared.ContentFormat.{ContentFormat}
 use Rattle.typed_options.specs.declared.ContentFormat.the-variants.{None}
 use Rattle.typed_options.specs.declared.Observe.{Observe}
 use Rattle.typed_options.specs.declared.Observe.the-variants.{Value, None as Unset, Refused}
-use Rattle.guarantees.specs.Padded.{EveryWidth, FourWidths, OneCount, LengthCounted, NoneWritten, SameNumber, BlocksCount, formatZeros, observeZeros, GettersCount}
+use Rattle.guarantees.specs.Padded.{EveryWidth, FourWidths, OneCount, LengthCounted, NoneWritten, SameNumber, BlocksCount, formatZeros, observeZeros, GettersCount, ToldApart}
 
 pub every-width : EveryWidth
 every-width width bs a b promise p =
@@ -98,3 +100,14 @@ getters-count s p = (
       ∙ first zerosFound (ofNumber 6 (recordsOf p)) (given absent) (λ r. onward (readUint 4 (valueOf s r)) (λ n. given (found n))) _
       (λ r. observe-of (ltb 4 (length (valueOf s r))) (valueOf s r))),
 )
+
+pub told-apart : ToldApart
+told-apart =
+    record {
+      uints = one-uint;
+      uints-8 = one-u8;
+      uints-16 = one-u16;
+      uints-32 = one-u32;
+      uints-64 = one-u64;
+      observe-values = one-observe;
+    }

@@ -8,10 +8,10 @@ use Rattle.packet.specs.Packet.{recordsOf}
 use Rattle.register.specs.Check.{passes, refusedAt, fates, firstRejected, marks, told}
 use Rattle.register.specs.Severe.{firstBreak}
 use Rattle.register.specs.declared.Verdict.the-variants.{Passes, BadOption}
-use Rattle.register.proofs.Order.{past-order, in-order, says, outcome-is, marked}
+use Rattle.register.proofs.Order.{past-order, in-order, says, outcome-is, marked, none-kept, one-checked}
 use Rattle.register.proofs.First.{marked-at, unmarked-past, passes-then, passes-when, named-then, named-when}
 use Rattle.register.proofs.Severe.{spared-all, listed-at, refused-before}
-use Rattle.guarantees.specs.Register.{ChecksRegister, PassesMore, RefusesLater}
+use Rattle.guarantees.specs.Register.{ChecksRegister, PassesMore, RefusesLater, NothingKept, ToldApart}
 
 pub checks-register : ChecksRegister
 checks-register lengths p c promise =
@@ -47,3 +47,9 @@ refuses-later lengths p c promise i e =
     let h = past-order lengths p (firstRejected 0 (fates [] rs)) (refusedAt 16 i) tt (sym (says lengths p c promise) ∙ ap told e) in
     let j = refused-before rs 16 i (h .1) in
     (j .0, j .1, in-order lengths p (firstBreak [] rs) (h .0) ∙ j .2)
+
+pub nothing-kept : NothingKept
+nothing-kept = none-kept
+
+pub told-apart : ToldApart
+told-apart = record { checks = one-checked }

@@ -16,7 +16,8 @@ use Rattle.packet.specs.declared.Packet.{Packet}
 use Rattle.measuring.specs.declared.Limit.{Limit}
 use Rattle.writing.specs.Writing.{ToBytes, Held}
 use Rattle.writing.proofs.Strict.{Writable, strict-writes, strict-output, strict-written}
-use Rattle.guarantees.specs.StrictWriting.{Sound, Enough, Wrote, StrictWriting, WritesStrictly}
+use Rattle.guarantees.specs.Wrote.{Wrote}
+use Rattle.guarantees.specs.StrictWriting.{Sound, Enough, StrictWriting, WritesStrictly}
 
 module _ (limit : Limit) (p : Packet) (shaped : Shaped p) (s : Stores) (b : Held s) (old : List ℕ) (r : Written) (new : List ℕ) (promise : ToBytes true limit p s old r new) where
   -- What is writable is written, as the layout of its meaning.

@@ -13,7 +13,9 @@ use Rattle.option_value.specs.declared.Text.the-variants.{Valid}
 use Rattle.option_value.proofs.Distinct.{one-text}
 use Rattle.code_text.specs.declared.Code.the-variants.{Byte}
 use Rattle.code_text.proofs.CodeText.{text-back, one-code}
-use Rattle.guarantees.specs.Texts.{TextsAreTaken, CodesReadBack}
+use Rattle.header.proofs.Raw.{one-setting}
+use Rattle.guarantees.specs.Texts.{TextsAreTaken, CodesReadBack, HeaderKept, ToldApart}
+use Rattle.guarantees.proofs.Refusals.{besides}
 
 -- A test that decides whether a value is text.
 valid : (t : Bool) (r : Judged) → textOf r ≡ pick t (given tt) (refused 15) → r ≡ Valid → T t
@@ -29,3 +31,14 @@ texts-are-taken value r e = (λ is. texts value .0 (valid (text value) r e is), 
 
 pub codes-read-back : CodesReadBack
 codes-read-back byte h r e = one-code r (Byte byte) (e ∙ text-back byte h)
+
+pub header-kept : HeaderKept
+header-kept a old r q = besides (r .outcome) (r .header) old a q
+
+pub told-apart : ToldApart
+told-apart =
+    record {
+      texts = one-text;
+      code-texts = one-code;
+      codes = one-setting;
+    }

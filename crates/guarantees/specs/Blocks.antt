@@ -11,10 +11,11 @@ use Rattle.refusal.specs.Answer.{given, written, after}
 use Rattle.refusal.specs.declared.Written.{Written}
 use Rattle.refusal.specs.declared.Written.the-variants.{Length}
 use Rattle.option_value.specs.Uint.{Padded, withZeros}
-use Rattle.block_value.specs.Answers.{built, blockRead}
+use Rattle.block_value.specs.Answers.{built, blockRead, sized}
 use Rattle.block_value.specs.Strict.{strictNew, strictWriting, ReadsStrict}
 use Rattle.block_value.specs.declared.BlockBuilt.{BlockBuilt}
 use Rattle.block_value.specs.declared.BlockRead.{BlockRead}
+use Rattle.guarantees.specs.Apart.{TellsApart}
 
 -- The value of a valid block: at most 3 bytes, some zeros and then the block's own bytes.
 pub record IsValueOf (value : List ℕ) (b : Padded Block) : Type 0 where
@@ -44,3 +45,9 @@ pub record Built (number : ℕ) (flag : Bool) (asked : ℕ) (b : Block) : Type 0
 
 abbrev pub BlocksBuilt : Type 0
 BlocksBuilt = (num : ℕ) (more : Bool) (asked : ℕ) (r : BlockBuilt) (b : Block) → built r ≡ strictNew num more asked → built r ≡ given b → Built num more asked b
+
+-- Every definition that a promise of blocks, plain and strict, tells its answer by tells answers apart.
+pub record ToldApart : Type 0 where
+  pub blocks : TellsApart built
+  pub blocks-read : TellsApart blockRead
+  pub block-sizes : TellsApart sized

@@ -5,13 +5,16 @@ use mathlib.Core.Path.{_≡_}
 use mathlib.Core.Bool.{Bool}
 use mathlib.Core.List.{List, _++_}
 use lib.ListN.{length, take, drop}
+use Rattle.refusal.specs.declared.Refusal.{Refusal}
 use Rattle.refusal.specs.declared.Written.{Written}
-use Rattle.refusal.specs.declared.Written.the-variants.{Length}
+use Rattle.refusal.specs.declared.Written.the-variants.{Length, Refused}
 use Rattle.packet.specs.Limits.{maxStore}
-use Rattle.packet.specs.Packet.{Stores, stores, recordsOf}
+use Rattle.packet.specs.Packet.{Stores, stores, bytesOf, recordsOf}
 use Rattle.packet.specs.Meaning.{meaning}
 use Rattle.packet.specs.Shape.{Shaped}
 use Rattle.packet.specs.declared.Packet.{Packet}
+use Rattle.packet.specs.declared.Range.{Range}
+use Rattle.packet.specs.declared.Home.the-variants.{Datagram}
 use Rattle.measuring.specs.declared.Limit.{Limit}
 use Rattle.writing.specs.Writing.{ToBytes}
 use Rattle.typed_options.specs.Apart.{Untouched}
@@ -41,3 +44,21 @@ abbrev pub Compaction : Type 0
 Compaction =
     (p : Packet) → Shaped p → (s : Stores) (second : List ℕ) (r : Compacted) (edits buffer : List ℕ) (n : ℕ)
     → Compacts p s second r edits buffer → r .outcome ≡ Length n → GivesBack p s second r edits buffer n
+
+-- Compaction, done or refused, leaves what every range of the datagram names.
+abbrev pub CompactionLeaves : Type 0
+CompactionLeaves =
+    (p : Packet) (s : Stores) (second : List ℕ) (r : Compacted) (edits buffer : List ℕ) → Compacts p s second r edits buffer
+    → (range : Range) → range .home ≡ Datagram → bytesOf (stores (s .datagram) edits) range ≡ bytesOf s range
+
+-- A refused compaction hands back the packet as it came, and leaves edit store and second buffer as they were.
+abbrev pub CompactionKept : Type 0
+CompactionKept =
+    (p : Packet) (s : Stores) (second : List ℕ) (r : Compacted) (edits buffer : List ℕ) → Compacts p s second r edits buffer
+    → (e : Refusal) → r .outcome ≡ Refused e → (r .packet ≡ p) × (edits ≡ s .edits) × (buffer ≡ second)
+
+-- A compaction has one answer, and leaves one edit store and one second buffer.
+abbrev pub OneCompaction : Type 0
+OneCompaction =
+    (p : Packet) (s : Stores) (second : List ℕ) (r q : Compacted) (edits also buffer other : List ℕ) → Compacts p s second r edits buffer
+    → Compacts p s second q also other → (r ≡ q) × (edits ≡ also) × (buffer ≡ other)

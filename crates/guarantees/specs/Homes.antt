@@ -10,10 +10,6 @@ use Rattle.packet.specs.declared.Packet.{Packet}
 use Rattle.packet.specs.declared.Range.{Range}
 use Rattle.packet.specs.declared.Home.the-variants.{Datagram}
 use Rattle.splicing.specs.declared.Edited.{Edited}
-use Rattle.compacting.specs.Compacting.{Compacts}
-use Rattle.compacting.specs.declared.Compacted.{Compacted}
-use Rattle.target_reading.specs.FromText.{FromText}
-use Rattle.target_reading.specs.declared.TargetRead.{TargetRead}
 use Rattle.typed_options.specs.Apart.{Apart}
 use Rattle.typed_options.specs.Setters.{Sets}
 
@@ -38,15 +34,3 @@ abbrev pub SetterLeaves : Type 0
 SetterLeaves =
     (datagram old new : List ℕ) (p : Packet) (a : Answer Packet) (start : ℕ) (bytes : List ℕ) (e : Edited) → Sets p a start bytes old e new
     → (r : Range) → Apart start (length bytes) r → bytesOf (stores datagram new) r ≡ bytesOf (stores datagram old) r
-
--- Compaction, done or refused, leaves what every range of the datagram names.
-abbrev pub CompactionLeaves : Type 0
-CompactionLeaves =
-    (p : Packet) (s : Stores) (second : List ℕ) (r : Compacted) (edits buffer : List ℕ) → Compacts p s second r edits buffer
-    → (range : Range) → range .home ≡ Datagram → bytesOf (stores (s .datagram) edits) range ≡ bytesOf s range
-
--- So does a text that is read into the edit store.
-abbrev pub TextLeaves : Type 0
-TextLeaves =
-    (datagram text : List ℕ) (start : ℕ) (old : List ℕ) (r : TargetRead) (new : List ℕ) → FromText text start old r new
-    → (range : Range) → range .home ≡ Datagram → bytesOf (stores datagram new) range ≡ bytesOf (stores datagram old) range

@@ -1,3 +1,5 @@
+pub mod Apart
+pub mod Wrote
 pub mod Determined
 pub mod Refusals
 pub mod WriterRefusals
@@ -13,14 +15,5 @@ pub mod Padded
 pub mod Blocks
 pub mod Texts
 pub mod Tables
-pub mod Frames
-pub mod Streams
-pub mod Conversions
-pub mod StreamRefusals
-pub mod Peers
 pub mod Compaction
-pub mod Duplicates
-pub mod Replays
-pub mod Plans
 pub mod Samples
-pub mod Targets

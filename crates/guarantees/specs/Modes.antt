@@ -3,7 +3,7 @@
 use Prim.Native.Nat.{ℕ, _<_}
 use mathlib.Core.Path.{_≡_}
 use mathlib.Core.Logic.{_⊎_, _↔_}
-use mathlib.Core.Bool.{true, false}
+use mathlib.Core.Bool.{Bool, true, false}
 use mathlib.Core.List.{List, [], _∷_, _++_}
 use lib.Dec.{T}
 use lib.ListN.{length}
@@ -14,10 +14,11 @@ use Rattle.refusal.specs.Number.{numberOf}
 use Rattle.refusal.specs.declared.Refusal.{Refusal}
 use Rattle.refusal.specs.declared.Outcome.the-variants.{Done, Refused}
 use Rattle.packet.specs.Limits.{maxPlainValue}
-use Rattle.packet.specs.Packet.{stores}
+use Rattle.packet.specs.Packet.{stores, newPacket}
 use Rattle.packet.specs.Meaning.{meaning}
 use Rattle.reading.specs.Reading.{FromBytes}
 use Rattle.reading.specs.declared.Decoded.{Decoded}
+use Rattle.guarantees.specs.Refusals.{DoneOr}
 
 -- A reader accepts the datagram.
 abbrev pub Accepts : Decoded → Type 0
@@ -95,3 +96,7 @@ abbrev pub RefusedApart : Type 0
 RefusedApart =
     let s : List ℕ = 0x0F ∷ 0x00 ∷ 0x00 ∷ 0x01 ∷ [] in
     (plain strict : Decoded) → FromBytes false s plain → FromBytes true s strict → RefusesWith (2 ∷ []) plain × RefusesWith (7 ∷ []) strict
+
+-- Beside a refused reading stands the new packet.
+abbrev pub NoPacketRead : Type 0
+NoPacketRead = (strict : Bool) (s : List ℕ) (d : Decoded) → FromBytes strict s d → DoneOr (d .outcome) (d .packet) newPacket

@@ -13,18 +13,19 @@ use Rattle.rfc.specs.Block.{Block}
 use Rattle.refusal.specs.Answer.{Answer, given, refused, onward, written, fitted, after}
 use Rattle.refusal.specs.declared.Written.{Written}
 use Rattle.refusal.specs.declared.Written.the-variants.{Length}
-use Rattle.option_value.specs.Uint.{Padded, withZeros, leadingZeros, ReadsUint, Pads, readU8, readU16, readU32, readU64}
+use Rattle.option_value.specs.Uint.{Padded, withZeros, leadingZeros, ReadsUint, Pads, uintOf, readU8, readU16, readU32, readU64}
 use Rattle.block_value.specs.Answers.{uintIn, blockRead}
 use Rattle.block_value.specs.Plain.{ReadsPlain}
 use Rattle.block_value.specs.Strict.{ReadsStrict}
 use Rattle.block_value.specs.declared.BlockRead.{BlockRead}
 use Rattle.packet.specs.Packet.{Stores, recordsOf, ofNumber, valueOf}
 use Rattle.packet.specs.declared.Packet.{Packet}
-use Rattle.typed_options.specs.Getters.{onFirst, GetsFormat, GetsObserve}
+use Rattle.typed_options.specs.Getters.{onFirst, observed, GetsFormat, GetsObserve}
 use Rattle.typed_options.specs.declared.ContentFormat.{ContentFormat}
 use Rattle.typed_options.specs.declared.ContentFormat.the-variants.{Format, None}
 use Rattle.typed_options.specs.declared.Observe.{Observe}
 use Rattle.typed_options.specs.declared.Observe.the-variants.{Value, None as Unset, Refused}
+use Rattle.guarantees.specs.Apart.{TellsApart}
 
 -- A reader gives a number and a count exactly where the rule holds of them: the value has at most `width` bytes, and is so many
 -- zero bytes and then the shortest bytes of the number.
@@ -93,3 +94,12 @@ GettersCount =
     (s : Stores) (p : Packet)
     → ((r : ContentFormat) → GetsFormat s p r → formatZeros r ≡ firstZeros 12 2 s p)
     × ((r : Observe) → GetsObserve s p r → observeZeros r ≡ firstZeros 6 4 s p)
+
+-- Every definition that a promise of uints, or of the value of Observe, tells its answer by tells answers apart.
+pub record ToldApart : Type 0 where
+  pub uints : TellsApart uintOf
+  pub uints-8 : TellsApart readU8
+  pub uints-16 : TellsApart readU16
+  pub uints-32 : TellsApart readU32
+  pub uints-64 : TellsApart readU64
+  pub observe-values : TellsApart observed

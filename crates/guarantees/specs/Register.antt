@@ -2,18 +2,20 @@
 -- beside the severe rule, by which an elective record that breaks the register is refused too.
 use Prim.Native.Nat.{ℕ, _<_, _≤_}
 use mathlib.Core.Path.{_≡_}
-use mathlib.Core.Logic.{_↔_}
+use mathlib.Core.Logic.{_↔_, _⊎_}
 use mathlib.Core.Bool.{false}
-use lib.ListN.{length, getD}
+use lib.ListN.{length, getD, replicate}
+use Rattle.packet.specs.Limits.{maxOptions}
 use Rattle.packet.specs.Packet.{none, recordsOf}
 use Rattle.packet.specs.declared.Packet.{Packet}
 use Rattle.judging.specs.declared.Lengths.{Lengths}
 use Rattle.register.specs.Register.{registered}
-use Rattle.register.specs.Check.{passes, refusedAt, Checks}
+use Rattle.register.specs.Check.{passes, refusedAt, checked, Checks}
 use Rattle.register.specs.First.{recognisedAt, NoneRejected, First, Sound}
 use Rattle.register.specs.Severe.{severely}
 use Rattle.register.specs.declared.Checked.{Checked}
 use Rattle.register.specs.declared.Verdict.the-variants.{Passes, BadOption}
+use Rattle.guarantees.specs.Apart.{TellsApart}
 
 pub record RegisterCheck (lengths : Lengths) (p : Packet) (c : Checked) : Type 0 where
   -- It passes exactly when it isn't refused 10 or 11 and each critical record is recognised after the kept ones before it.
@@ -40,3 +42,12 @@ abbrev pub RefusesLater : Type 0
 RefusesLater =
     (lengths : Lengths) (p : Packet) (c : Checked) → Checks lengths p c → (i : ℕ) → c .outcome ≡ BadOption i
     → (j : ℕ) × (j ≤ i) × (severely lengths p ≡ refusedAt 16 j)
+
+-- Beside a refused check of the register no record is kept.
+abbrev pub NothingKept : Type 0
+NothingKept =
+    (lengths : Lengths) (p : Packet) (c : Checked) → Checks lengths p c → (c .outcome ≡ Passes) ⊎ (c .kept ≡ replicate maxOptions false)
+
+-- The definition that a promise of the check tells its answer by tells answers apart.
+pub record ToldApart : Type 0 where
+  pub checks : TellsApart checked

@@ -17,7 +17,8 @@ use Rattle.reading.specs.Reading.{FromBytes}
 use Rattle.reading.specs.declared.Decoded.{Decoded}
 use Rattle.measuring.specs.declared.Limit.{Limit}
 use Rattle.writing.specs.Writing.{ToBytes, Held}
-use Rattle.guarantees.specs.StrictWriting.{Enough, Wrote}
+use Rattle.guarantees.specs.StrictWriting.{Enough}
+use Rattle.guarantees.specs.Wrote.{Wrote}
 
 -- Written, then read: a strict reading of the bytes written, where they are at most 70,000, gives a packet of equal
 -- meaning, beside any edit store.

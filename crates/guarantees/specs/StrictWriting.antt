@@ -4,8 +4,8 @@ use Prim.Native.Nat.{ℕ, _≤_}
 use mathlib.Core.Path.{_≡_}
 use mathlib.Core.Logic.{_↔_}
 use mathlib.Core.Bool.{true, false}
-use mathlib.Core.List.{List, _++_}
-use lib.ListN.{length, drop}
+use mathlib.Core.List.{List}
+use lib.ListN.{length}
 use Rattle.rfc.specs.Message.{Message, WellFormed, layout}
 use Rattle.refusal.specs.declared.Written.{Written}
 use Rattle.refusal.specs.declared.Written.the-variants.{Length}
@@ -17,6 +17,7 @@ use Rattle.packet.specs.declared.Packet.{Packet}
 use Rattle.measuring.specs.Measuring.{over}
 use Rattle.measuring.specs.declared.Limit.{Limit}
 use Rattle.writing.specs.Writing.{ToBytes, Held}
+use Rattle.guarantees.specs.Wrote.{Wrote}
 
 -- The packet isn't refused 10 or 11.
 pub record Sound (s : Stores) (p : Packet) : Type 0 where
@@ -27,11 +28,6 @@ pub record Sound (s : Stores) (p : Packet) : Type 0 where
 pub record Enough (limit : Limit) (room : ℕ) (bytes : List ℕ) : Type 0 where
   pub within : over limit (length bytes) ≡ false
   pub fits : length bytes ≤ room
-
--- What was written: the answer is the length of the bytes, which stand in the output before what stood after them.
-pub record Wrote (bytes old : List ℕ) (r : Written) (new : List ℕ) : Type 0 where
-  pub answer : r ≡ Length (length bytes)
-  pub output : new ≡ bytes ++ drop (length bytes) old
 
 pub record StrictWriting (limit : Limit) (p : Packet) (s : Stores) (old : List ℕ) (r : Written) (new : List ℕ) : Type 0 where
   -- A packet that means a well-formed message is written as its layout.

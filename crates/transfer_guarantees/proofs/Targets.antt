@@ -29,15 +29,20 @@ use Rattle.packet.specs.declared.Home.the-variants.{Datagram, Edits}
 use Rattle.packet.specs.declared.OptionRecord.{OptionRecord}
 use Rattle.judging.specs.Judge.{lengthsOf, tooLong, badPacket}
 use Rattle.uri_text.specs.Reading.{reading}
-use Rattle.uri_text.specs.Tally.{total}
+use Rattle.uri_text.specs.Judging.{judgedRead}
+use Rattle.uri_text.specs.Tally.{Tally, total, tallied}
+use Rattle.uri_text.specs.declared.Judged.the-variants.{Length, BadText as NoText, BadOption as NoOption}
+use Rattle.uri_text.specs.declared.Tallied.the-variants.{Values as Counted, BadText as NoUri, BadOption as NotSaid}
 use Rattle.uri_text.proofs.Identity.{identity, stable}
 use Rattle.target_writing.specs.ToText.{textIn, writable}
 use Rattle.target_reading.specs.FromText.{Reply, passes, refused, refusedAt, placed, replyTo, packetFor, packetOf, storeOf, bare, told, FromText}
 use Rattle.target_reading.specs.declared.Verdict.{Verdict}
 use Rattle.target_reading.specs.declared.Verdict.the-variants.{Passes, Refused as Not, BadOption}
 use Rattle.target_reading.proofs.Meaning.{options-are}
 use Rattle.guarantees.proofs.Refusals.{output-kept}
-use Rattle.guarantees.specs.Targets.{targetIn, WritesText, WritesSpelt, newMessage, MeansTarget, HasRoom, Identity, Stable, TextKept, StoreKept, OneText, OneTarget, StableCalls}
+use Rattle.transfer_guarantees.specs.Targets.{targetIn, WritesText, WritesSpelt, newMessage, MeansTarget, HasRoom, Identity, Stable, TextKept, StoreKept, OneText, OneTarget, StableCalls, TextLeaves, ToldApart}
+use Rattle.guarantees.proofs.Homes.{frozen-stays}
+use Rattle.guarantees.specs.Apart.{TellsApart}
 
 -- Where something is written, it is the text.
 was-text : (s : Stores) (p : Packet) (a : Answer (List ℕ)) (n : ℕ) (old : List ℕ) → a ≡ writable s p → onward a (fitted (length old)) ≡ given n → a ≡ given (textIn s p)
@@ -171,6 +176,9 @@ stable-calls s start old r new from is d old₂ w text n to length-is start₃ o
     let same : targetIn (stores d new) (r .packet) ≡ m .0 = ap (λ (x : Message). targetOf (x .options)) (m .2 d) ∙ target-back (m .0) in
     identity-holds (stores d new) (r .packet) old₂ w text n to length-is (subst SayableTarget (sym same) (says-sayable s (m .0) (m .1))) start₃ old₃ room q new₃ back
 
+pub text-leaves : TextLeaves
+text-leaves datagram text start old r new promise range e = frozen-stays datagram old new range e
+
 pub text-kept : TextKept
 text-kept s p old r new w e is = output-kept (onward (writable s p) (fitted (length old))) 0 (textIn s p) old r new (w .answer) (w .output) e is
 
@@ -201,3 +209,32 @@ one-target s start old r q new also w v =
     let o : r .outcome ≡ q .outcome = one-told (r .outcome) (q .outcome) (w .outcome ∙ sym (v .outcome)) in
     let p : r .packet ≡ q .packet = w .packet ∙ sym (v .packet) in
     ((λ i. record { outcome = o i; packet = p i }), w .store ∙ sym (v .store))
+
+one-uri-part : TellsApart judgedRead
+one-uri-part (Length m) (Length n) e = cc
+one-uri-part (Length m) NoText e = cc
+one-uri-part (Length m) (NoOption j) e = cc
+one-uri-part NoText (Length n) e = cc
+one-uri-part NoText NoText e = refl
+one-uri-part NoText (NoOption j) e = cc
+one-uri-part (NoOption i) (Length n) e = cc
+one-uri-part (NoOption i) NoText e = cc
+one-uri-part (NoOption i) (NoOption j) e = cc
+
+one-uri-text : TellsApart tallied
+one-uri-text (Counted a b) (Counted c d) e = let k : _≡_ {A = Tally} (record { count = a; bytes = b }) (record { count = c; bytes = d }) = cc in rw (ap (λ (x : Tally). x .count) k, ap (λ (x : Tally). x .bytes) k)
+one-uri-text (Counted a b) NoUri e = cc
+one-uri-text (Counted a b) (NotSaid j) e = cc
+one-uri-text NoUri (Counted c d) e = cc
+one-uri-text NoUri NoUri e = refl
+one-uri-text NoUri (NotSaid j) e = cc
+one-uri-text (NotSaid i) (Counted c d) e = cc
+one-uri-text (NotSaid i) NoUri e = cc
+one-uri-text (NotSaid i) (NotSaid j) e = cc
+
+pub told-apart : ToldApart
+told-apart =
+    record {
+      uri-parts = one-uri-part;
+      uri-texts = one-uri-text;
+    }

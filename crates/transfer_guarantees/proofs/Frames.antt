@@ -28,11 +28,12 @@ use Rattle.reading.proofs.Complete.{reads-layout}
 use Rattle.framing.specs.Framing.{framed, strictly, unframed, frameOf, bytesOf, Converts}
 use Rattle.framing.proofs.Converting.{frame-is}
 use Rattle.framing.proofs.Back.{unframed-frame, came-back}
 use Rattle.guarantees.specs.StrictReading.{IsLayoutOf}
-use Rattle.guarantees.specs.StrictWriting.{Wrote}
-use Rattle.guarantees.specs.Frames.{IsFrameOf, renamed, OneMessage, Out, Back, OutThenBack, BackThenOut}
+use Rattle.guarantees.specs.Wrote.{Wrote}
+use Rattle.transfer_guarantees.specs.Frames.{IsFrameOf, renamed, OneMessage, Out, Back, OutThenBack, BackThenOut, FrameOutputKept, OneConversion}
 use Rattle.reading.proofs.Taken.{Taken, taken}
 use Rattle.guarantees.proofs.RoundTrips.{front}
+use Rattle.guarantees.proofs.Refusals.{output-kept}
 
 -- What a conversion wrote, and that it wrote something.
 module _ (a : Answer (List ℕ)) (old : List ℕ) (r : Written) (new : List ℕ) (promise : Converts a old r new) where
@@ -233,3 +234,9 @@ back-then-out kind id small f b old r new n promise e old₂ r₂ new₂ fits ag
     let gives : framed (take n new) ≡ given f =
     ap framed stands-there ∙ (framed-layout (o .message) (o .is .well-formed) (o .is .short) ∙ ap given (o .is .bytes)) in
     wrote (framed (take n new)) old₂ r₂ new₂ again f gives fits
+
+pub frame-output-kept : FrameOutputKept
+frame-output-kept a old r new q e is = output-kept (onward a (fitted (length old))) 0 (bytesOf a) old r new (q .answer) (q .output) e is
+
+pub one-conversion : OneConversion
+one-conversion a old r q new also x y = (one-written r q (x .answer ∙ sym (y .answer)), x .output ∙ sym (y .output))

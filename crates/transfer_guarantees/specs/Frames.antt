@@ -8,14 +8,16 @@ use lib.ListN.{length, take}
 use Rattle.rfc.specs.Message.{Message, WellFormed, layout}
 use Rattle.rfc.specs.Frame.{frame}
 use Rattle.ground.specs.Part.{Bytes}
+use Rattle.refusal.specs.Answer.{Answer}
+use Rattle.refusal.specs.declared.Refusal.{Refusal}
 use Rattle.refusal.specs.declared.Written.{Written}
-use Rattle.refusal.specs.declared.Written.the-variants.{Length}
+use Rattle.refusal.specs.declared.Written.the-variants.{Length, Refused}
 use Rattle.header.specs.Header.{numberOfType}
 use Rattle.header.specs.declared.MessageType.{MessageType}
 use Rattle.packet.specs.Limits.{maxStore}
-use Rattle.framing.specs.Framing.{ToFrame, FromFrame}
+use Rattle.framing.specs.Framing.{Converts, ToFrame, FromFrame}
 use Rattle.guarantees.specs.StrictReading.{IsLayoutOf}
-use Rattle.guarantees.specs.StrictWriting.{Wrote}
+use Rattle.guarantees.specs.Wrote.{Wrote}
 
 -- A well-formed message whose layout has at most 70,000 bytes, and whose frame these bytes are.
 pub record IsFrameOf (f : List ℕ) (m : Message) : Type 0 where
@@ -76,3 +78,13 @@ BackThenOut =
     → FromFrame kind id f old r new → r ≡ Length n
     → (old₂ : List ℕ) (r₂ : Written) (new₂ : List ℕ) → length f ≤ length old₂ → ToFrame (take n new) old₂ r₂ new₂
     → Wrote f old₂ r₂ new₂
+
+-- A refused conversion, to a frame or back from one, leaves the output as it was; so does one of a stream to its other form.
+abbrev pub FrameOutputKept : Type 0
+FrameOutputKept = (a : Answer (List ℕ)) (old : List ℕ) (r : Written) (new : List ℕ) → Converts a old r new → (e : Refusal) → r ≡ Refused e → new ≡ old
+
+-- A conversion to a frame, or back from one, has one answer and leaves one output; so has one of a stream.
+abbrev pub OneConversion : Type 0
+OneConversion =
+    (a : Answer (List ℕ)) (old : List ℕ) (r q : Written) (new also : List ℕ) → Converts a old r new → Converts a old q also
+    → (r ≡ q) × (new ≡ also)

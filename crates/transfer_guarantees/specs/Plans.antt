@@ -8,11 +8,12 @@ use lib.Dec.{leb, ltb}
 use lib.ListN.{length, take, drop}
 use Rattle.ground.specs.Choice.{pick, both}
 use Rattle.rfc.specs.Block.{Block, size, blockNumber, blockOf}
+use Rattle.refusal.specs.declared.Refusal.{Refusal}
 use Rattle.refusal.specs.declared.Refusal.the-variants.{BadPlan}
 use Rattle.refusal.specs.declared.Outcome.{Outcome}
 use Rattle.refusal.specs.declared.Outcome.the-variants.{Done, Refused as Not}
 use Rattle.refusal.specs.declared.Written.{Written}
-use Rattle.refusal.specs.declared.Written.the-variants.{Length}
+use Rattle.refusal.specs.declared.Written.the-variants.{Length, Refused}
 use Rattle.image.specs.Image.{units, fits, missing, NoneMissing}
 use Rattle.plan_checking.specs.Plan.{Checks}
 use Rattle.plan_checking.specs.Accepted.{Each, Accepted, Good}
@@ -64,3 +65,18 @@ abbrev pub RoomEnough : Type 0
 RoomEnough =
     (bytes : ℕ) (held old : List ℕ) (r : Written) (new : List ℕ) → Plans bytes held old r new → fits bytes held ≡ true
     → ((units bytes + 1) / 2 ≤ length old → (n : ℕ) × (r ≡ Length n)) × (32768 ≤ length old → (n : ℕ) × (r ≡ Length n))
+
+-- A planner that is refused leaves the list as it was.
+abbrev pub ListKept : Type 0
+ListKept =
+    (bytes : ℕ) (held old : List ℕ) (r : Written) (new : List ℕ) → Plans bytes held old r new
+    → (e : Refusal) → r ≡ Refused e → new ≡ old
+
+-- A plan has one verdict; and an image, with what is held of it, one plan in one list.
+abbrev pub OneVerdict : Type 0
+OneVerdict = (bytes : ℕ) (held values : List ℕ) (r s : Outcome) → Checks bytes held values r → Checks bytes held values s → r ≡ s
+
+abbrev pub OnePlan : Type 0
+OnePlan =
+    (bytes : ℕ) (held old : List ℕ) (r s : Written) (new other : List ℕ)
+    → Plans bytes held old r new → Plans bytes held old s other → (r ≡ s) × (new ≡ other)

@@ -8,7 +8,8 @@ use Rattle.refusal.specs.declared.Outcome.the-variants.{Done}
 use Rattle.placing.specs.Put.{Puts}
 use Rattle.peers.specs.Text.{peerText}
 use Rattle.peer_reading.specs.declared.Peer.{Peer}
-use Rattle.peer_reading.specs.Reading.{peerIn, ReadsPeer}
+use Rattle.peer_reading.specs.Reading.{peerIn, peerOf, ReadsPeer}
+use Rattle.guarantees.specs.Apart.{TellsApart}
 
 -- A peer: 18 bytes.
 pub record IsPeer (p : List ℕ) : Type 0 where
@@ -24,3 +25,7 @@ PutThenRead =
 -- No two peers have one text.
 abbrev pub OnePeer : Type 0
 OnePeer = (p q : List ℕ) → IsPeer p → IsPeer q → peerText p ≡ peerText q → p ≡ q
+
+-- The definition that a promise of peers tells its answer by tells answers apart.
+pub record ToldApart : Type 0 where
+  pub peers-read : TellsApart peerOf

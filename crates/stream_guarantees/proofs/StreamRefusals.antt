@@ -22,11 +22,14 @@ use Rattle.reading.specs.Options.{Tail, onPlace, before, options}
 use Rattle.reading.specs.Reading.{longest, finished, afterHeader, reading}
 use Rattle.stream.specs.declared.Form.{Form}
 use Rattle.stream.specs.Stream.{Frozen, AllSized, streamOf, datagramsOf}
-use Rattle.stream.specs.Messages.{thawed}
+use Rattle.stream.specs.Answers.{stepRead}
+use Rattle.stream.specs.Messages.{messageAt, thawed}
 use Rattle.stream.proofs.Exact.{exact, Only19}
-use Rattle.thawing.specs.Thawing.{allStrict, strict, thawedStrictly, countsOf, strictlyIn, listed as listedIn, thawing}
+use Rattle.thawing.specs.Message.{nextIn, foundBytes}
+use Rattle.thawing.specs.Thawing.{allStrict, strict, thawedStrictly, countsOf, strictlyIn, entries, messagesIn, listed as listedIn, thawing}
 use Rattle.converting.specs.Converting.{otherForm, converted}
-use Rattle.guarantees.specs.StreamRefusals.{judgingNumbers, streamNumbers, JudgingRefusals, ThawingRefusals, ConvertingRefusals}
+use Rattle.stream_guarantees.specs.StreamRefusals.{judgingNumbers, streamNumbers, JudgingRefusals, ThawingRefusals, ConvertingRefusals, ThawingKept, StepKept}
+use Rattle.guarantees.proofs.Refusals.{output-kept, kept-by}
 
 -- An answer that is refused, if it is, with one of the numbers.
 abbrev Judges : {A : Type 0} → Answer A → Type 0
@@ -137,3 +140,13 @@ converting-refusals form s old r new p e is =
     (refusing-onward (λ k. T (listed k streamNumbers)) (thawedStrictly form s) (λ l. given (streamOf (otherForm form) l)) (also (thawedStrictly form s) (of-messages form s)) (λ l. tt))
     (λ b. on-lt (Reads {A = ℕ}) (length old) (length b) (λ _. tt) (λ _. tt)))
     (sym (p .answer) ∙ ap written is)
+
+pub thawing-kept : ThawingKept
+thawing-kept form s oldList oldOut r list out q e is =
+    let a : Answer ℕ = thawing form (length oldList) (length oldOut) s in
+    let l = messagesIn (thawed form s) in
+    (output-kept a 0 (entries form 0 0 l) oldList r list (q .answer) (q .list) e is, output-kept a 0 (datagramsOf l) oldOut r out (q .answer) (q .output) e is)
+
+pub step-kept : StepKept
+step-kept form s at old to r new q e is =
+    kept-by (nextIn form s at (length old) to) to (foundBytes (messageAt form s at)) old new (numberOf e) (sym (q .answer) ∙ ap stepRead is) (q .output)

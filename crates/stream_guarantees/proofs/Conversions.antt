@@ -20,10 +20,10 @@ use Rattle.stream.proofs.Complete.{message-some}
 use Rattle.stream.proofs.Exact.{exact, one-form, two-firsts, same-rest}
 use Rattle.thawing.specs.Thawing.{strict, thawedStrictly, listed, thawing}
 use Rattle.converting.specs.Converting.{otherForm, converted}
-use Rattle.guarantees.specs.Streams.{IsStreamOf}
-use Rattle.guarantees.specs.Conversions.{ConvertsExactly, Converting, ThereAndBack, OneForm, eachIn, EachSized, SomeIn, MixedForms}
-use Rattle.guarantees.proofs.Frames.{wrote, converted as came, stood}
-use Rattle.guarantees.proofs.Streams.{is-stream, of-stream, not-thawed, no-stream}
+use Rattle.stream_guarantees.specs.StreamOf.{IsStreamOf}
+use Rattle.stream_guarantees.specs.Conversions.{ConvertsExactly, Converting, ThereAndBack, OneForm, eachIn, EachSized, SomeIn, MixedForms}
+use Rattle.transfer_guarantees.proofs.Frames.{wrote, converted as came, stood}
+use Rattle.stream_guarantees.proofs.Streams.{is-stream, of-stream, not-thawed, no-stream}
 
 -- The stream in the other form, of the list that the stream has.
 to-other : (from : Form) (s : List ℕ) (l : List Frozen) → IsStreamOf from s l → converted from s ≡ given (streamOf (otherForm from) l)

@@ -24,12 +24,13 @@ use Rattle.image.proofs.Fitting.{Fitting, fitting}
 use Rattle.plan_checking.specs.Plan.{start, stop, covers, over, checking}
 use Rattle.plan_checking.specs.Accepted.{Good}
 use Rattle.plan_checking.proofs.Accepted.{good-done, done-good, not-done}
-use Rattle.planning.specs.Planner.{planned, values}
+use Rattle.planning.specs.Planner.{planned, planning, values}
 use Rattle.planning.proofs.Answered.{given-fits, wrote, rest-kept, enough}
 use Rattle.planning.proofs.Ours.{ours-accepted, ours-good, read-ours}
 use Rattle.planning.proofs.Named.{named, greedy, empty-full, full-empty}
 use Rattle.planning.proofs.Bound.{half-as-many}
-use Rattle.guarantees.specs.Plans.{ChecksExactly, asks, asked, NeverOverlaid, OurPlan, PlansWell, RoomEnough}
+use Rattle.transfer_guarantees.specs.Plans.{ChecksExactly, asks, asked, NeverOverlaid, OurPlan, PlansWell, RoomEnough, ListKept, OneVerdict, OnePlan}
+use Rattle.guarantees.proofs.Refusals.{output-kept}
 
 -- The check.
 module _ (bytes : ℕ) (held values : List ℕ) (r : Outcome) (promise : outcome r ≡ checking bytes held values) where
@@ -120,3 +121,13 @@ room-enough bytes held old r new promise fit =
     λ h. (length (values bytes held), one-written r (Length (length (values bytes held))) (promise .answer ∙ enough (length old) bytes held fit h))
     in
     (λ h. written-so (omega arith), λ h. written-so (omega (arith, fitting bytes held fit .most)))
+
+pub list-kept : ListKept
+list-kept bytes held old r new q e is =
+    output-kept (planning (length old) bytes held) 0 (values bytes held) old r new (q .answer) (q .list) e is
+
+pub one-verdict : OneVerdict
+one-verdict bytes held values r s p q = one-outcome r s (p ∙ sym q)
+
+pub one-plan : OnePlan
+one-plan bytes held old r s new other p q = (one-written r s (p .answer ∙ sym (q .answer)), p .list ∙ sym (q .list))

@@ -15,8 +15,8 @@ use Rattle.thawing.specs.Thawing.{Strictly, Thaws}
 use Rattle.thawing.specs.declared.Strict.{Strict}
 use Rattle.thawing.specs.declared.Strict.the-variants.{Refused as NotRead}
 use Rattle.converting.specs.Converting.{otherForm, converted}
-use Rattle.guarantees.specs.StrictWriting.{Wrote}
-use Rattle.guarantees.specs.Streams.{IsStreamOf}
+use Rattle.guarantees.specs.Wrote.{Wrote}
+use Rattle.stream_guarantees.specs.StreamOf.{IsStreamOf}
 
 pub record ConvertsExactly (from : Form) (s old : List ℕ) (r : Written) (new : List ℕ) : Type 0 where
   -- The stream of a list is written as the stream, in the other form, of the same list.

@@ -8,7 +8,7 @@ use mathlib.Core.List.{List, [], _∷_, _++_, map}
 use lib.ListN.{length, drop}
 use Rattle.ground.specs.Part.{Bytes}
 use Rattle.rfc.specs.Duplicates.{Arrival, history, fresh, freshAfter, lastTime}
-use Rattle.refusal.specs.Answer.{given}
+use Rattle.refusal.specs.Answer.{given, refused}
 use Rattle.refusal.specs.Number.{numberOf}
 use Rattle.refusal.specs.declared.Refusal.{Refusal}
 use Rattle.refusal.specs.declared.Refusal.the-variants.{NoRoom, BadFreeze}
@@ -31,13 +31,15 @@ use Rattle.hearing.specs.declared.Verdict.{Verdict}
 use Rattle.hearing.specs.declared.Heard.{Heard}
 use Rattle.hearing.specs.declared.Heard.the-variants.{Is}
 use Rattle.tracing.specs.Trace.{Timed, AllTimed, traceOf, messagesOf}
-use Rattle.tracing.specs.Judging.{Judges}
-use Rattle.tracing.specs.Arrivals.{arrivalOf, arrivalsOf}
+use Rattle.tracing.specs.Judging.{judged as traceJudged, Judges}
+use Rattle.tracing.specs.Answers.{timedRead}
+use Rattle.tracing.specs.Arrivals.{arrivalOf, arrivalsOf, arrivedIn}
 use Rattle.tracing.specs.declared.Judged.{Judged}
 use Rattle.tracing.specs.declared.Judged.the-variants.{Messages, Refused as NotJudged}
-use Rattle.replaying.specs.Replaying.{Replays}
+use Rattle.replaying.specs.Replaying.{begins, Replays}
 use Rattle.replaying.specs.declared.Replayed.{Replayed}
-use Rattle.guarantees.specs.Streams.{AllAccepted}
+use Rattle.stream_guarantees.specs.StreamOf.{AllAccepted}
+use Rattle.guarantees.specs.Apart.{TellsApart}
 
 -- The trace is that of a list: times of 32 bits, and messages whose peers have 18 bytes, and whose datagrams have 4..1,280 and are
 -- accepted by strict reading.
@@ -149,3 +151,22 @@ abbrev pub Replaying : Type 0
 Replaying =
     (s : List ℕ) → Bytes s → (table listing : List ℕ) (r : Replayed) (left listed : List ℕ)
     → Replays s table listing r left listed → ReplaysExactly s table listing r left listed
+
+-- A replay that is refused before it begins lists nothing, and leaves table and listing as they were. (What one leaves that a message
+-- ends is said above.)
+abbrev pub ReplayKept : Type 0
+ReplayKept =
+    (s table listing : List ℕ) (r : Replayed) (left listed : List ℕ) → Replays s table listing r left listed
+    → (k : ℕ) → begins s (length table) ≡ refused k → (r .count ≡ 0) × (left ≡ table) × (listed ≡ listing)
+
+-- Every definition that a promise of traces tells its answer by tells answers apart.
+pub record ToldApart : Type 0 where
+  pub traces : TellsApart traceJudged
+  pub timed-messages : TellsApart timedRead
+  pub arrivals : TellsApart arrivedIn
+
+-- A replay has one answer, and leaves one table and one listing.
+abbrev pub OneReplay : Type 0
+OneReplay =
+    (s table listing : List ℕ) (r q : Replayed) (left also listed other : List ℕ) → Replays s table listing r left listed
+    → Replays s table listing q also other → (r ≡ q) × (left ≡ also) × (listed ≡ other)

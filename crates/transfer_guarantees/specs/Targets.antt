@@ -13,16 +13,20 @@ use Rattle.refusal.specs.declared.Refusal.{Refusal}
 use Rattle.refusal.specs.declared.Written.{Written}
 use Rattle.refusal.specs.declared.Written.the-variants.{Length, Refused}
 use Rattle.packet.specs.Limits.{maxStore, maxOptions}
-use Rattle.packet.specs.Packet.{Stores, stores, newPacket}
+use Rattle.packet.specs.Packet.{Stores, stores, bytesOf, newPacket}
 use Rattle.packet.specs.Meaning.{meaning}
 use Rattle.packet.specs.declared.Packet.{Packet}
+use Rattle.packet.specs.declared.Range.{Range}
+use Rattle.packet.specs.declared.Home.the-variants.{Datagram}
 use Rattle.uri_text.specs.Reading.{reading}
 use Rattle.uri_text.specs.Sayable.{SayableTarget}
-use Rattle.uri_text.specs.Tally.{total}
+use Rattle.uri_text.specs.Judging.{judgedRead}
+use Rattle.uri_text.specs.Tally.{total, tallied}
 use Rattle.target_writing.specs.ToText.{ToText}
 use Rattle.target_reading.specs.FromText.{FromText}
 use Rattle.target_reading.specs.declared.TargetRead.{TargetRead}
 use Rattle.target_reading.specs.declared.Verdict.the-variants.{Passes}
+use Rattle.guarantees.specs.Apart.{TellsApart}
 
 -- The path and the query that a packet means.
 abbrev pub targetIn : Stores → Packet → Target
@@ -79,6 +83,12 @@ StableCalls =
     → (q : TargetRead) (new₃ : List ℕ) → FromText (take n text) start₃ old₃ q new₃
     → (q .outcome ≡ Passes) × ((e : List ℕ) → targetIn (stores e new₃) (q .packet) ≡ targetIn (stores d new) (r .packet))
 
+-- A text that is read into the edit store leaves what every range of the datagram names.
+abbrev pub TextLeaves : Type 0
+TextLeaves =
+    (datagram text : List ℕ) (start : ℕ) (old : List ℕ) (r : TargetRead) (new : List ℕ) → FromText text start old r new
+    → (range : Range) → range .home ≡ Datagram → bytesOf (stores datagram new) range ≡ bytesOf (stores datagram old) range
+
 -- A refused call leaves what it was lent: the output, or the store, with the new packet beside the refusal.
 abbrev pub TextKept : Type 0
 TextKept =
@@ -100,3 +110,8 @@ abbrev pub OneTarget : Type 0
 OneTarget =
     (s : List ℕ) (start : ℕ) (old : List ℕ) (r q : TargetRead) (new also : List ℕ) → FromText s start old r new
     → FromText s start old q also → (r ≡ q) × (new ≡ also)
+
+-- Every definition that a promise of URI text tells its answer by tells answers apart.
+pub record ToldApart : Type 0 where
+  pub uri-parts : TellsApart judgedRead
+  pub uri-texts : TellsApart tallied

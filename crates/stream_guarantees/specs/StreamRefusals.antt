@@ -1,4 +1,5 @@
--- Which refusals reading a stream gives, by number: 19, those of strict reading but for a length, and 12.
+-- Which refusals reading a stream gives, by number: 19, those of strict reading but for a length, and 12; and what a call
+-- that is so refused leaves as it was.
 use Prim.Native.Nat.{ℕ}
 use mathlib.Core.Path.{_≡_}
 use mathlib.Core.List.{List, [], _∷_}
@@ -10,6 +11,9 @@ use Rattle.refusal.specs.declared.Written.{Written}
 use Rattle.refusal.specs.declared.Written.the-variants.{Refused}
 use Rattle.framing.specs.Framing.{Converts}
 use Rattle.stream.specs.declared.Form.{Form}
+use Rattle.stream.specs.declared.Step.{Step}
+use Rattle.stream.specs.declared.Step.the-variants.{Refused as NoMessage}
+use Rattle.thawing.specs.Message.{NextMessage}
 use Rattle.thawing.specs.Thawing.{Strictly, Thaws}
 use Rattle.thawing.specs.declared.Strict.{Strict}
 use Rattle.thawing.specs.declared.Strict.the-variants.{Refused as NotRead}
@@ -40,3 +44,14 @@ abbrev pub ConvertingRefusals : Type 0
 ConvertingRefusals =
     (form : Form) (s old : List ℕ) (r : Written) (new : List ℕ) → Converts (converted form s) old r new
     → (e : Refusal) → r ≡ Refused e → T (listed (numberOf e) streamNumbers)
+
+-- A refused thawing leaves list and output as they were; a step that is refused leaves the output.
+abbrev pub ThawingKept : Type 0
+ThawingKept =
+    (form : Form) (s oldList oldOut : List ℕ) (r : Written) (list out : List ℕ) → Thaws form s oldList oldOut r list out
+    → (e : Refusal) → r ≡ Refused e → (list ≡ oldList) × (out ≡ oldOut)
+
+abbrev pub StepKept : Type 0
+StepKept =
+    (form : Form) (s : List ℕ) (at : ℕ) (old : List ℕ) (to : ℕ) (r : Step) (new : List ℕ) → NextMessage form s at old to r new
+    → (e : Refusal) → r ≡ NoMessage e → new ≡ old

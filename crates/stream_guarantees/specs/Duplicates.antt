@@ -11,15 +11,16 @@ use Rattle.rfc.specs.Duplicates.{Arrival, unexpired, same, verdict, freshAfter,
 use Rattle.refusal.specs.declared.Refusal.{Refusal}
 use Rattle.refusal.specs.declared.Refusal.the-variants.{NoRoom, ClockBack}
 use Rattle.refusal.specs.declared.Outcome.{Outcome}
-use Rattle.refusal.specs.declared.Outcome.the-variants.{Done}
+use Rattle.refusal.specs.declared.Outcome.the-variants.{Done, Refused as Not}
 use Rattle.hearing.specs.Table.{unused, holds, entries, free}
 use Rattle.hearing.specs.Bytes.{tableSize, places}
-use Rattle.hearing.specs.Hearing.{Fits, verdictOf, Hears, Clears}
+use Rattle.hearing.specs.Hearing.{Fits, verdictOf, heardOf, Hears, Clears}
 use Rattle.hearing.specs.Told.{Holds, NoPlace}
 use Rattle.hearing.specs.declared.Verdict.{Verdict}
 use Rattle.hearing.specs.declared.Verdict.the-variants.{New}
 use Rattle.hearing.specs.declared.Heard.{Heard}
 use Rattle.hearing.specs.declared.Heard.the-variants.{Is, Refused}
+use Rattle.guarantees.specs.Apart.{TellsApart}
 
 -- A message stands in the lowest-numbered place that was unused or expired, and the other places are as they were.
 pub record Takes (m : Arrival) (old left : List ℕ) : Type 0 where
@@ -67,3 +68,23 @@ OnePlace =
     (ms : List Arrival) → InTime 0 ms → (table : List ℕ) → Holds (lastTime 0 ms) table (fresh ms)
     → (now : ℕ) → lastTime 0 ms ≤ now → (x : Arrival) → Among x (fresh ms) → unexpired now x ≡ true
     → Among x (entries (places table)) × (count now (same x) (entries (places table)) ≡ 1)
+
+-- A refused message leaves the table as it was, and so does a refused clearing.
+abbrev pub TableKept : Type 0
+TableKept =
+    ((before : ℕ) (m : Arrival) (old : List ℕ) (r : Heard) (left : List ℕ) → Hears before m old r left
+    → (e : Refusal) → r ≡ Refused e → left ≡ old)
+    × ((old : List ℕ) (r : Outcome) (left : List ℕ) → Clears old r left → (e : Refusal) → r ≡ Not e → left ≡ old)
+
+-- The definition that a promise on a message tells its answer by tells answers apart.
+pub record ToldApart : Type 0 where
+  pub heard : TellsApart heardOf
+
+-- A message over a table has one answer and leaves one table, and so has clearing it.
+abbrev pub OneHearing : Type 0
+OneHearing =
+    (before : ℕ) (m : Arrival) (old : List ℕ) (r q : Heard) (left also : List ℕ) → Hears before m old r left → Hears before m old q also
+    → (r ≡ q) × (left ≡ also)
+
+abbrev pub OneClearing : Type 0
+OneClearing = (old : List ℕ) (r q : Outcome) (left also : List ℕ) → Clears old r left → Clears old q also → (r ≡ q) × (left ≡ also)

@@ -34,19 +34,25 @@ use Rattle.writing.specs.Writing.{writing, bytesWritten, Held}
 use Rattle.writing.proofs.Sizes.{message-length}
 use Rattle.writing.proofs.Strict.{Writable, strict-writes, strict-written}
 use Rattle.stream.specs.declared.Form.{Form}
+use Rattle.stream.specs.declared.Step.the-variants.{Message, Refused as NoMessage}
+use Rattle.stream.specs.declared.Judged.the-variants.{Messages as Judged, Refused as NotJudged}
+use Rattle.stream.specs.Answers.{Extent, Tally, stepRead, judged as streamJudged}
 use Rattle.stream.specs.Stream.{Frozen, Sized, AllSized, messageOf, streamOf, datagramsOf}
 use Rattle.stream.specs.Messages.{thawed}
 use Rattle.stream.proofs.Exact.{exact, stream-append, Only19}
 use Rattle.stream.proofs.Sizes.{message-size}
-use Rattle.thawing.specs.Thawing.{allStrict, strict, thawedStrictly, countsOf, strictlyIn, Strictly, entries, listed, thawing, Thaws}
+use Rattle.thawing.specs.Thawing.{allStrict, strict, thawedStrictly, Counts, countsOf, strictlyIn, Strictly, entries, listed, thawing, Thaws}
 use Rattle.thawing.specs.declared.Strict.{Strict}
 use Rattle.thawing.specs.declared.Strict.the-variants.{Messages, Refused as NoMessages}
 use Rattle.thawing.proofs.Thawed.{Counted, counted, thawed-of, strict-same}
 use Rattle.thawing.proofs.Listing.{entries-length}
 use Rattle.freezing.specs.Freezing.{frozenIn, strictDatagram, freezing, Freezes}
 use Rattle.freezing.proofs.Full.{never-twelve}
-use Rattle.guarantees.specs.Streams.{AllAccepted, IsStreamOf, JudgedExactly, OneList, Roomy, Holds, ThawsExactly, Thawing, Appended, Item, AllProper, messageFor, InTurn, FrozenThenThawed, ThawedThenFrozen, RoomOfTheStream, NoStream, PeersAt, MessageSizes, Comes, AllCome, StreamAgain}
+use Rattle.stream_guarantees.specs.StreamOf.{AllAccepted, IsStreamOf}
+use Rattle.stream_guarantees.specs.Streams.{JudgedExactly, OneList, Roomy, Holds, ThawsExactly, Thawing, Appended, Item, AllProper, messageFor, InTurn, FrozenThenThawed, ThawedThenFrozen, RoomOfTheStream, NoStream, PeersAt, MessageSizes, Comes, AllCome, StreamAgain, StreamKept, ToldApart, OneThawing, OneFreezing}
+use Rattle.guarantees.specs.Apart.{TellsApart}
 use Rattle.guarantees.proofs.StrictReading.{done}
+use Rattle.guarantees.proofs.Refusals.{output-kept}
 
 -- A list is strict exactly when each datagram is accepted.
 pub all-strict : (l : List Frozen) → AllAccepted l → allStrict l ≡ given tt
@@ -307,3 +313,42 @@ pub room-of-the-stream : RoomOfTheStream
 unfolding freezing strictDatagram
 room-of-the-stream form peer p shaped s b old start r new f e =
     twelve-by form peer s p shaped b (length old) start (writing true (Given fullSize) fullSize s p) refl (sym (f .answer) ∙ ap written e)
+
+pub stream-kept : StreamKept
+stream-kept form peer p s old start r new q e is =
+    output-kept (freezing form (length old) start peer s p) start (messageOf form (record { peer = peer; datagram = bytesWritten true s p })) old r new (q .answer) (q .output) e is
+
+one-step : TellsApart stepRead
+one-step (Message a b) (Message c d) e = let k : _≡_ {A = Extent} (record { len = a; next = b }) (record { len = c; next = d }) = same-given e in rw (ap (λ (x : Extent). x .len) k, ap (λ (x : Extent). x .next) k)
+one-step (Message a b) (NoMessage y) e = cc
+one-step (NoMessage x) (Message c d) e = cc
+one-step (NoMessage x) (NoMessage y) e = let k : numberOf x ≡ numberOf y = cc in rw (distinct x y k)
+
+one-stream : TellsApart streamJudged
+one-stream (Judged a b) (Judged c d) e = let k : _≡_ {A = Tally} (record { count = a; bytes = b }) (record { count = c; bytes = d }) = same-given e in rw (ap (λ (x : Tally). x .count) k, ap (λ (x : Tally). x .bytes) k)
+one-stream (Judged a b) (NotJudged y) e = cc
+one-stream (NotJudged x) (Judged c d) e = cc
+one-stream (NotJudged x) (NotJudged y) e = let k : numberOf x ≡ numberOf y = cc in rw (distinct x y k)
+
+one-strict : TellsApart strictlyIn
+one-strict (Messages a b c) (Messages d f g) e =
+    let k : _≡_ {A = Counts} (record { count = a; bytes = b; chunks = c }) (record { count = d; bytes = f; chunks = g }) = same-given e in
+    rw (ap (λ (x : Counts). x .count) k, ap (λ (x : Counts). x .bytes) k, ap (λ (x : Counts). x .chunks) k)
+one-strict (Messages a b c) (NoMessages y) e = cc
+one-strict (NoMessages x) (Messages d f g) e = cc
+one-strict (NoMessages x) (NoMessages y) e = let k : numberOf x ≡ numberOf y = cc in rw (distinct x y k)
+
+pub told-apart : ToldApart
+told-apart =
+    record {
+      messages = one-step;
+      streams = one-stream;
+      strict-streams = one-strict;
+    }
+
+pub one-thawing : OneThawing
+one-thawing form s oldList oldOut r q list alsoList out alsoOut x y =
+    (one-written r q (x .answer ∙ sym (y .answer)), x .list ∙ sym (y .list), x .output ∙ sym (y .output))
+
+pub one-freezing : OneFreezing
+one-freezing form peer p s old start r q new also x y = (one-written r q (x .answer ∙ sym (y .answer)), x .output ∙ sym (y .output))

@@ -10,7 +10,7 @@ use borrow.Author.Tests.{le-ltb}
 use Rattle.ground.proofs.Choice.{on-lt}
 use Rattle.ground.proofs.Part.{part-after}
 use Rattle.rfc.specs.Duplicates.{Arrival, Verdict, new, fresh, lastTime}
-use Rattle.refusal.specs.Answer.{Answer, given, refused, outcome}
+use Rattle.refusal.specs.Answer.{Answer, given, refused, outcome, after}
 use Rattle.refusal.specs.Number.{numberOf}
 use Rattle.refusal.specs.declared.Refusal.{Refusal}
 use Rattle.refusal.specs.declared.Refusal.the-variants.{NoRoom, ClockBack}
@@ -25,13 +25,14 @@ use Rattle.hearing.specs.declared.Verdict.the-variants.{New, Duplicate, Passed}
 use Rattle.hearing.specs.declared.Heard.{Heard}
 use Rattle.hearing.specs.declared.Heard.the-variants.{Is, Refused}
 use Rattle.hearing.proofs.Answers.{sixty-four, is-back, is-short}
-use Rattle.hearing.proofs.Left.{taken, places-left, lowest-free, none-below, behind-left}
+use Rattle.hearing.proofs.Left.{taken, places-left, lowest-free, none-below, behind-left, unchanged}
 use Rattle.hearing.proofs.Telling.{accepted, told-roomy, told-why, why-told}
 use Rattle.hearing.proofs.Step.{agrees, kept}
 use Rattle.hearing.proofs.Cleared.{cleared-holds}
 use Rattle.hearing.proofs.Alone.{standing, alone}
 use Rattle.hearing.proofs.Distinct.{one-heard}
-use Rattle.guarantees.specs.Duplicates.{Takes, ByHistory, HearsHistory, ShortTable, ClearedTable, OnePlace}
+use Rattle.stream_guarantees.specs.Duplicates.{Takes, ByHistory, HearsHistory, ShortTable, ClearedTable, OnePlace, TableKept, ToldApart, OneHearing, OneClearing}
+use Rattle.guarantees.proofs.Refusals.{kept-by}
 
 module _ (before : ℕ) (news : List Arrival) (m : Arrival) (f : Fits m) (old : List ℕ) (k : Holds before old news) where
   -- Why a call is refused, by the history; and that it is refused for each reason.
@@ -113,14 +114,33 @@ done-size size = on-lt (λ (a : Answer (Unit {0})). a ≡ given tt → tableSize
 pub behind-zeros : (old : List ℕ) (n : ℕ) → drop n (sets old 0 (replicate n 0)) ≡ drop n old
 behind-zeros old n = part-after (replicate n 0) old 0 n (rw length-replicate (omega arith))
 
+-- What was cleared is zeros, of whatever size: with the size as a number the zeros are never written out.
+zeroed : (a : Answer (Unit {0})) (size : ℕ) (old left : List ℕ) → left ≡ after a 0 (replicate size 0) old → a ≡ given tt → left ≡ sets old 0 (replicate size 0)
+zeroed a size old left e g = e ∙ ap (λ (x : Answer (Unit {0})). after x 0 (replicate size 0) old) g
+
 pub cleared-table : ClearedTable
 cleared-table old r left c =
-    let size : r ≡ Done → tableSize ≤ length old = λ i. done-size (length old) (sym (c .answer) ∙ ap outcome i) in
-    let table : r ≡ Done → left ≡ sets old 0 (replicate tableSize 0) =
-    λ i. c .table ∙ rw (le-ltb (length old) tableSize (size i)) in (
+    let cleared : r ≡ Done → clearing (length old) ≡ given tt = λ i. sym (c .answer) ∙ ap outcome i in
+    let size : r ≡ Done → tableSize ≤ length old = λ i. done-size (length old) (cleared i) in
+    let table : r ≡ Done → left ≡ sets old 0 (replicate tableSize 0) = λ i. zeroed (clearing (length old)) tableSize old left (c .table) (cleared i) in (
       (size, λ h. one-outcome r Done (c .answer ∙ rw (le-ltb (length old) tableSize h))),
       λ i. (rw (table i) (cleared-holds old (size i)), ap (drop tableSize) (table i) ∙ behind-zeros old tableSize),
     )
 
 pub one-place : OnePlace
 one-place ms t table k now h x a u = (standing (lastTime 0 ms) table (fresh ms) k now h x a u, alone table ms t k now h x a u)
+
+pub table-kept : TableKept
+table-kept = (
+  λ before m old r left h e is. h .table ∙ unchanged (hearing before old m) m old (numberOf e) (sym (h .answer) ∙ ap heardOf is),
+  λ old r left c e is. kept-by (clearing (length old)) 0 (replicate tableSize 0) old left (numberOf e) (sym (c .answer) ∙ ap outcome is) (c .table),
+)
+
+pub told-apart : ToldApart
+told-apart = record { heard = one-heard }
+
+pub one-hearing : OneHearing
+one-hearing before m old r q left also x y = (one-heard r q (x .answer ∙ sym (y .answer)), x .table ∙ sym (y .table))
+
+pub one-clearing : OneClearing
+one-clearing old r q left also x y = (one-outcome r q (x .answer ∙ sym (y .answer)), x .table ∙ sym (y .table))

@@ -8,7 +8,7 @@ use lib.ListN.{length, take, drop}
 use lib.Seq.{sets}
 use Rattle.ground.specs.Part.{Bytes}
 use Rattle.rfc.specs.Message.{layout}
-use Rattle.refusal.specs.Answer.{given}
+use Rattle.refusal.specs.declared.Refusal.{Refusal}
 use Rattle.refusal.specs.declared.Refusal.the-variants.{NoRoom, BadFreeze}
 use Rattle.refusal.specs.declared.Outcome.the-variants.{Done}
 use Rattle.refusal.specs.declared.Written.{Written}
@@ -18,28 +18,20 @@ use Rattle.packet.specs.Packet.{Stores, stores}
 use Rattle.packet.specs.Meaning.{meaning}
 use Rattle.packet.specs.Shape.{Shaped}
 use Rattle.packet.specs.declared.Packet.{Packet}
-use Rattle.reading.specs.Reading.{FromBytes, reading}
+use Rattle.reading.specs.Reading.{FromBytes}
 use Rattle.reading.specs.declared.Decoded.{Decoded}
 use Rattle.stream.specs.declared.Form.{Form}
+use Rattle.stream.specs.Answers.{stepRead, judged as streamJudged}
 use Rattle.stream.specs.Stream.{Frozen, AllSized, messageOf, streamOf, datagramsOf, messageSize}
 use Rattle.writing.specs.Writing.{Held}
-use Rattle.thawing.specs.Thawing.{Strictly, entries, Thaws}
+use Rattle.thawing.specs.Thawing.{strictlyIn, Strictly, entries, Thaws}
 use Rattle.thawing.specs.declared.Strict.{Strict}
 use Rattle.thawing.specs.declared.Strict.the-variants.{Messages, Refused as NotRead}
 use Rattle.freezing.specs.Freezing.{Freezes}
+use Rattle.stream_guarantees.specs.StreamOf.{IsStreamOf}
+use Rattle.guarantees.specs.Apart.{TellsApart}
 
--- Strict reading accepts each datagram.
-abbrev pub AllAccepted : List Frozen → Type 0
-AllAccepted [] = Unit {0}
-AllAccepted (m ∷ l) = ((p : Packet) × (reading true (m .datagram) ≡ given p)) × AllAccepted l
-
--- The stream is that of a list whose peers have 18 bytes, and whose datagrams have 4..1,280 and are accepted by strict reading.
-pub record IsStreamOf (form : Form) (s : List ℕ) (l : List Frozen) : Type 0 where
-  pub sized : AllSized l
-  pub accepted : AllAccepted l
-  pub bytes : s ≡ streamOf form l
-
--- A stream is refused neither 19 nor for a datagram exactly when it is that of such a list.
+-- A stream is refused neither 19 nor for a datagram exactly when it is that of a list whose datagrams strict reading accepts.
 abbrev pub JudgedExactly : Type 0
 JudgedExactly =
     (form other : Form) (s : List ℕ) (r : Strict) → Strictly form other s r
@@ -163,3 +155,27 @@ RoomOfTheStream =
     (form : Form) (peer : List ℕ) (p : Packet) → Shaped p → (s : Stores) → Held s → (old : List ℕ) (start : ℕ) (r : Written) (new : List ℕ)
     → Freezes form peer p s old start r new → r ≡ Refused NoRoom
     → (length (layout (meaning s p)) ≤ fullSize) × (length old < start + length (messageOf form (messageFor (record { peer = peer; packet = p; lent = s }))))
+
+-- A refused freezing leaves the stream as it was.
+abbrev pub StreamKept : Type 0
+StreamKept =
+    (form : Form) (peer : List ℕ) (p : Packet) (s : Stores) (old : List ℕ) (start : ℕ) (r : Written) (new : List ℕ)
+    → Freezes form peer p s old start r new → (e : Refusal) → r ≡ Refused e → new ≡ old
+
+-- Every definition that a promise of streams tells its answer by tells answers apart.
+pub record ToldApart : Type 0 where
+  pub messages : TellsApart stepRead
+  pub streams : TellsApart streamJudged
+  pub strict-streams : TellsApart strictlyIn
+
+-- A stream that is thawed has one answer, one list and one output; a packet that is frozen one answer and one stream.
+abbrev pub OneThawing : Type 0
+OneThawing =
+    (form : Form) (s oldList oldOut : List ℕ) (r q : Written) (list alsoList out alsoOut : List ℕ)
+    → Thaws form s oldList oldOut r list out → Thaws form s oldList oldOut q alsoList alsoOut
+    → (r ≡ q) × (list ≡ alsoList) × (out ≡ alsoOut)
+
+abbrev pub OneFreezing : Type 0
+OneFreezing =
+    (form : Form) (peer : List ℕ) (p : Packet) (s : Stores) (old : List ℕ) (start : ℕ) (r q : Written) (new also : List ℕ)
+    → Freezes form peer p s old start r new → Freezes form peer p s old start q also → (r ≡ q) × (new ≡ also)

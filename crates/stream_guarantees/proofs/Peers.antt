@@ -9,9 +9,10 @@ use Rattle.refusal.proofs.Answers.{same-given}
 use Rattle.refusal.proofs.Distinct.{one-outcome}
 use Rattle.placing.proofs.Puts.{puts-front}
 use Rattle.peers.specs.Text.{peerText}
-use Rattle.peer_reading.specs.Reading.{peerIn}
+use Rattle.peer_reading.specs.Reading.{peerIn, peerOf}
 use Rattle.peer_reading.proofs.RoundTrip.{read-back}
-use Rattle.guarantees.specs.Peers.{IsPeer, PutThenRead, OnePeer}
+use Rattle.stream_guarantees.specs.Peers.{IsPeer, PutThenRead, OnePeer, ToldApart}
+use Rattle.guarantees.specs.Apart.{TellsApart}
 
 back : (p : List ℕ) → IsPeer p → peerIn (peerText p) ≡ given p
 back p i = read-back p (i .size) (i .bytes)
@@ -23,3 +24,11 @@ put-then-read p i old n new room q r e =
 
 pub one-peer : OnePeer
 one-peer p q i j e = same-given (sym (back p i) ∙ (ap peerIn e ∙ back q j))
+
+one-peer-read : TellsApart peerOf
+one-peer-read x y e =
+    let o = one-outcome (x .outcome) (y .outcome) (ap (λ (r : Beside (List ℕ)). r .answer) e) in
+    λ i. record { outcome = o i; bytes = ap (λ (r : Beside (List ℕ)). r .value) e i }
+
+pub told-apart : ToldApart
+told-apart = record { peers-read = one-peer-read }

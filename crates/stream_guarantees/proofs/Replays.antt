@@ -42,13 +42,13 @@ use Rattle.tracing.proofs.Exact.{exact, one-form, trace-append, stream-no-trace
 use Rattle.tracing.proofs.Counted.{strict-list, traced-of, Counted, counted, uncounted}
 use Rattle.tracing.proofs.Arrivals.{header-read, id-small}
 use Rattle.tracing.proofs.Bytes.{AllBytes, traced-bytes}
-use Rattle.tracing.proofs.Distinct.{one-judged}
+use Rattle.tracing.proofs.Distinct.{one-judged, one-timed, one-arrived}
 use Rattle.replaying.specs.Replaying.{begins, cleared, replayedFrom, replaying, Replays}
 use Rattle.replaying.specs.declared.Replayed.{Replayed}
 use Rattle.replaying.proofs.Begun.{cleared-by}
-use Rattle.guarantees.specs.Replays.{IsTraceOf, TraceJudgedExactly, OneTrace, TraceCounted, NoTrace, NoStreamIsTrace, NoTraceIsStream, TraceAppended, IdentifiedByMeaning, Begins, NoneRefused, Stops, Leaves, InTurn, ReplaysExactly, Replaying}
-use Rattle.guarantees.proofs.Streams.{all-strict, all-accepted, is-19}
-use Rattle.guarantees.proofs.Duplicates.{done-size, behind-zeros}
+use Rattle.stream_guarantees.specs.Replays.{IsTraceOf, TraceJudgedExactly, OneTrace, TraceCounted, NoTrace, NoStreamIsTrace, NoTraceIsStream, TraceAppended, IdentifiedByMeaning, Begins, NoneRefused, Stops, Leaves, InTurn, ReplaysExactly, Replaying, ReplayKept, ToldApart, OneReplay}
+use Rattle.stream_guarantees.proofs.Streams.{all-strict, all-accepted, is-19}
+use Rattle.stream_guarantees.proofs.Duplicates.{done-size, behind-zeros}
 
 -- What is judged is the trace of such a list, and the other way round.
 is-trace : (s : List ℕ) → Bytes s → (l : List Timed) → tracedStrictly s ≡ given l → IsTraceOf (formOf s) s l
@@ -429,3 +429,20 @@ module _ (s : List ℕ) (small : Bytes s) (table listing : List ℕ) (r : Replay
 
 pub replaying-exactly : Replaying
 replaying-exactly s b table listing r left listed p = replays-exactly s b table listing r left listed p
+
+pub replay-kept : ReplayKept
+replay-kept s table listing r left listed p k e = let u = unbegun s table listing r left listed p k e in (u .count, u .table, u .listing)
+
+pub told-apart : ToldApart
+told-apart =
+    record {
+      traces = one-judged;
+      timed-messages = one-timed;
+      arrivals = one-arrived;
+    }
+
+pub one-replay : OneReplay
+one-replay s table listing r q left also listed other x y =
+    let outcome = one-outcome (r .outcome) (q .outcome) (x .outcome ∙ sym (y .outcome)) in
+    let count = x .count ∙ sym (y .count) in
+    (λ k. record { outcome = outcome k; count = count k }, x .table ∙ sym (y .table), x .listing ∙ sym (y .listing))

@@ -1,0 +1,7 @@
+pub mod Streams
+pub mod Conversions
+pub mod StreamRefusals
+pub mod Peers
+pub mod Duplicates
+pub mod Replays
+mod StreamSamples

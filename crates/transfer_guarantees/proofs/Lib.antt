@@ -1,0 +1,4 @@
+pub mod Frames
+mod FrameSamples
+pub mod Plans
+pub mod Targets
