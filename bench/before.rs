@@ -1,188 +1,59 @@
 //! Times reading and writing by this tree and by an earlier one, on the same messages, and prints the ratio. A time is the least of
-//! many short runs that take turns, in nanoseconds for one call; a ratio under 1 is in favour of this tree.
+//! many short runs that take turns, in nanoseconds for one message; a ratio under 1 is in favour of this tree.
 
+#[macro_use]
+mod exported;
 mod messages;
 mod turns;
 
-use messages::{content, get, message};
-use std::hint::black_box;
-use turns::least;
+use exported::now;
+use turns::{least, side, Room, MOST_NUMBERS};
 
-/// Room for the largest flat form of either.
-const MOST_NUMBERS: usize = 11 + 4 * 128;
-/// The largest datagram that is read.
-const MOST_BYTES: usize = 70_000;
-
-// crates/ffi/src/lib.rt: a slice is a pointer and a length.
-extern "C" {
-    fn rickwinter_v2_read(strict: bool, datagram: *const u8, len: usize, out: *mut u32, room: usize) -> u32;
-    fn rickwinter_v2_write(
-        strict: bool,
-        packet: *const u32,
-        numbers: usize,
-        datagram: *const u8,
-        len: usize,
-        edits: *const u8,
-        edited: usize,
-        out: *mut u8,
-        room: usize,
-    ) -> u64;
-    fn rickwinter_copy(strict: bool, datagram: *const u8, len: usize, out: *mut u8, room: usize) -> u64;
-    fn before_rickwinter_copy(strict: bool, datagram: *const u8, len: usize, out: *mut u8, room: usize) -> u64;
-}
-
-#[cfg(before = "two")]
-extern "C" {
-    fn before_rickwinter_v2_read(strict: bool, datagram: *const u8, len: usize, out: *mut u32, room: usize) -> u32;
-    fn before_rickwinter_v2_write(
-        strict: bool,
-        packet: *const u32,
-        numbers: usize,
-        datagram: *const u8,
-        len: usize,
-        edits: *const u8,
-        edited: usize,
-        out: *mut u8,
-        room: usize,
-    ) -> u64;
-}
-
-// Before packets had two stores.
-#[cfg(before = "one")]
-extern "C" {
-    fn before_rickwinter_read(strict: bool, datagram: *const u8, len: usize, out: *mut u32, room: usize) -> u32;
-    fn before_rickwinter_write(
-        strict: bool,
-        packet: *const u32,
-        numbers: usize,
-        store: *const u8,
-        len: usize,
-        out: *mut u8,
-        room: usize,
-    ) -> u64;
-}
-
-// SAFETY, of all: the pointers and lengths are those of slices, and the functions are proved to stay within them.
-fn read(datagram: &[u8], out: &mut [u32]) -> u32 {
-    unsafe { rickwinter_v2_read(false, datagram.as_ptr(), datagram.len(), out.as_mut_ptr(), out.len()) }
-}
-
-fn write(packet: &[u32], datagram: &[u8], out: &mut [u8]) -> u64 {
-    unsafe {
-        rickwinter_v2_write(
-            false,
-            packet.as_ptr(),
-            packet.len(),
-            datagram.as_ptr(),
-            datagram.len(),
-            [].as_ptr(),
-            0,
-            out.as_mut_ptr(),
-            out.len(),
-        )
-    }
-}
-
-fn copy(datagram: &[u8], out: &mut [u8]) -> u64 {
-    unsafe { rickwinter_copy(false, datagram.as_ptr(), datagram.len(), out.as_mut_ptr(), out.len()) }
-}
-
-#[cfg(before = "two")]
-fn read_before(datagram: &[u8], out: &mut [u32]) -> u32 {
-    unsafe { before_rickwinter_v2_read(false, datagram.as_ptr(), datagram.len(), out.as_mut_ptr(), out.len()) }
-}
-
-#[cfg(before = "one")]
-fn read_before(datagram: &[u8], out: &mut [u32]) -> u32 {
-    unsafe { before_rickwinter_read(false, datagram.as_ptr(), datagram.len(), out.as_mut_ptr(), out.len()) }
-}
-
-#[cfg(before = "two")]
-fn write_before(packet: &[u32], datagram: &[u8], out: &mut [u8]) -> u64 {
-    unsafe {
-        before_rickwinter_v2_write(
-            false,
-            packet.as_ptr(),
-            packet.len(),
-            datagram.as_ptr(),
-            datagram.len(),
-            [].as_ptr(),
-            0,
-            out.as_mut_ptr(),
-            out.len(),
-        )
-    }
-}
-
-#[cfg(before = "one")]
-fn write_before(packet: &[u32], datagram: &[u8], out: &mut [u8]) -> u64 {
-    unsafe {
-        before_rickwinter_write(
-            false,
-            packet.as_ptr(),
-            packet.len(),
-            datagram.as_ptr(),
-            datagram.len(),
-            out.as_mut_ptr(),
-            out.len(),
-        )
-    }
-}
-
-fn copy_before(datagram: &[u8], out: &mut [u8]) -> u64 {
-    unsafe { before_rickwinter_copy(false, datagram.as_ptr(), datagram.len(), out.as_mut_ptr(), out.len()) }
-}
+exported!(before, "before_rickwinter_v2_read", "before_rickwinter_v2_write", "before_rickwinter_copy");
 
 fn main() {
     println!("{:34}{:>27}{:>27}{:>27}", "", "read", "write", "read and write");
     println!("{:26}{:>8}{}", "message", "bytes", "      now   before    ratio".repeat(3));
-    measure("(a) GET, 4 options", &get());
-    measure("(b) 2.05, 1,024 of payload", &content());
-    measure("(c) 40 options of 8", &message(40, 0));
-    for options in [0, 8, 16, 128] {
-        measure(&format!("{options} options of 8"), &message(options, 0));
-    }
-    for payload in [1 << 10, 16 << 10, 64 << 10] {
-        measure(&format!("{payload} of payload"), &message(0, payload));
+    for (name, datagrams) in messages::cases() {
+        measure(&name, &datagrams.into_iter().map(read_by_both).collect::<Vec<_>>());
     }
 }
 
-fn measure(name: &str, datagram: &[u8]) {
-    let mut flat = [0; MOST_NUMBERS];
-    let mut flat_before = [0; MOST_NUMBERS];
-    let mut numbers = [0; MOST_NUMBERS];
-    let mut others = [0; MOST_NUMBERS];
-    let mut bytes = vec![0; MOST_BYTES];
-    let mut copied = vec![0; MOST_BYTES];
-    assert_eq!(read(datagram, &mut flat), 0, "{name}");
-    assert_eq!(read_before(datagram, &mut flat_before), 0, "{name}");
+/// A datagram and its flat form, which both trees read, and write as it was.
+fn read_by_both(datagram: Vec<u8>) -> (Vec<u8>, Vec<u32>) {
+    let mut flat = vec![0; MOST_NUMBERS];
+    let mut other = vec![0; MOST_NUMBERS];
+    assert_eq!(now::read(&datagram, &mut flat), 0);
+    assert_eq!(before::read(&datagram, &mut other), 0);
+    assert_eq!(flat, other);
+    flat.truncate(11 + 4 * flat[10] as usize);
     let writers: [&dyn Fn(&mut [u8]) -> u64; 4] = [
-        &|out| write(&flat, datagram, out),
-        &|out| copy(datagram, out),
-        &|out| write_before(&flat_before, datagram, out),
-        &|out| copy_before(datagram, out),
+        &|out| now::write(&flat, &datagram, out),
+        &|out| now::copy(&datagram, out),
+        &|out| before::write(&flat, &datagram, out),
+        &|out| before::copy(&datagram, out),
     ];
     for writer in writers {
-        bytes.fill(0);
+        let mut bytes = Room::new().bytes;
         let length = writer(&mut bytes) as usize;
-        assert_eq!(&bytes[..length], datagram, "{name}");
+        assert_eq!(&bytes[..length], datagram);
     }
-    let pairs = [
-        least(
-            || read(black_box(datagram), black_box(&mut numbers)),
-            || read_before(black_box(datagram), black_box(&mut others)),
-        ),
-        least(
-            || write(black_box(&flat), black_box(datagram), black_box(&mut bytes)),
-            || write_before(black_box(&flat_before), black_box(datagram), black_box(&mut copied)),
-        ),
-        least(
-            || copy(black_box(datagram), black_box(&mut bytes)),
-            || copy_before(black_box(datagram), black_box(&mut copied)),
-        ),
-    ];
-    print!("{name:26}{:>8}", datagram.len());
-    for (now, before) in pairs {
+    (datagram, flat)
+}
+
+fn measure(name: &str, messages: &[(Vec<u8>, Vec<u32>)]) {
+    let times = least(&[
+        side(messages, |m, room| now::read(&m.0, &mut room.numbers)),
+        side(messages, |m, room| before::read(&m.0, &mut room.numbers)),
+        side(messages, |m, room| now::write(&m.1, &m.0, &mut room.bytes)),
+        side(messages, |m, room| before::write(&m.1, &m.0, &mut room.bytes)),
+        side(messages, |m, room| now::copy(&m.0, &mut room.bytes)),
+        side(messages, |m, room| before::copy(&m.0, &mut room.bytes)),
+    ]);
+    let bytes: usize = messages.iter().map(|m| m.0.len()).sum();
+    print!("{name:26}{:>8}", bytes / messages.len());
+    for pair in times.chunks(2) {
+        let [now, before] = [pair[0], pair[1]].map(|time| time / messages.len() as f64);
         print!("{now:>9.0}{before:>9.0}{:>9.2}", now / before);
     }
     println!();

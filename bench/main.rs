@@ -1,141 +1,143 @@
-//! Times reading and writing of the same messages by the Rattle code and by coap-lite, and prints the ratio.
-//! A time is the least of many short runs, in nanoseconds for one call; a ratio under 1 is in favour of the Rattle code.
+//! Times reading and writing of the same messages by coap-lite, by libcoap, by plain C and by each of our designs, and prints the
+//! ratios and the goals. A time is the least of many short runs that take turns, in nanoseconds for one message; a ratio under 1 is
+//! in favour of ours. With --table the lines are rows of Markdown.
 
+mod agreement;
+mod exported;
+mod linked;
 mod messages;
+mod tables;
 mod turns;
 
-use coap_lite::{MessageClass, MessageType, Packet};
-use messages::{content, get, message};
-use std::hint::black_box;
-use turns::least;
+use coap_lite::Packet;
+use exported::now;
+#[cfg(libcoap)]
+use linked::libcoap;
+use linked::{floor, timed};
+use tables::{goals, growth, line, rule, shown, Times};
+use turns::{least, side, Side, MOST_NUMBERS};
 
-/// The largest flat form: 11 numbers, and 4 for each of 128 options.
-const MOST_NUMBERS: usize = 11 + 4 * 128;
-/// The largest datagram that is read.
-const MOST_BYTES: usize = 70_000;
-
-// crates/ffi/src/lib.rt: a slice is a pointer and a length.
-extern "C" {
-    fn rickwinter_v2_read(strict: bool, datagram: *const u8, len: usize, out: *mut u32, room: usize) -> u32;
-    fn rickwinter_v2_write(
-        strict: bool,
-        packet: *const u32,
-        numbers: usize,
-        datagram: *const u8,
-        len: usize,
-        edits: *const u8,
-        edited: usize,
-        out: *mut u8,
-        room: usize,
-    ) -> u64;
-    fn rickwinter_copy(strict: bool, datagram: *const u8, len: usize, out: *mut u8, room: usize) -> u64;
+/// A message in each of the forms that it is read or written from.
+pub struct Message {
+    datagram: Vec<u8>,
+    flat: Vec<u32>,
+    theirs: Packet,
 }
 
-fn read(datagram: &[u8], out: &mut [u32]) -> u32 {
-    // SAFETY: the pointers and lengths are those of slices, and the function is proved to stay within them.
-    unsafe { rickwinter_v2_read(false, datagram.as_ptr(), datagram.len(), out.as_mut_ptr(), out.len()) }
-}
-
-fn write(packet: &[u32], datagram: &[u8], edits: &[u8], out: &mut [u8]) -> u64 {
-    // SAFETY: as above.
-    unsafe {
-        rickwinter_v2_write(
-            false,
-            packet.as_ptr(),
-            packet.len(),
-            datagram.as_ptr(),
-            datagram.len(),
-            edits.as_ptr(),
-            edits.len(),
-            out.as_mut_ptr(),
-            out.len(),
-        )
+impl Message {
+    fn of(datagram: Vec<u8>) -> Message {
+        let mut flat = vec![0; MOST_NUMBERS];
+        assert_eq!(now::read(&datagram, &mut flat), 0);
+        flat.truncate(11 + 4 * flat[10] as usize);
+        let theirs = Packet::from_bytes(&datagram).unwrap();
+        Message { datagram, flat, theirs }
     }
 }
 
-fn copy(datagram: &[u8], out: &mut [u8]) -> u64 {
-    // SAFETY: as above.
-    unsafe { rickwinter_copy(false, datagram.as_ptr(), datagram.len(), out.as_mut_ptr(), out.len()) }
+struct Case {
+    name: String,
+    messages: Vec<Message>,
 }
+
+type Sides<'a> = Vec<(&'static str, Side<'a>)>;
 
 fn main() {
-    println!("{:34}{:>27}{:>27}{:>27}", "", "read", "write", "read and write");
-    println!("{:26}{:>8}{}", "message", "bytes", "     ours   theirs    ratio".repeat(3));
-    measure("(a) GET, 4 options", &get());
-    measure("(b) 2.05, 1,024 of payload", &content());
-    measure("(c) 40 options of 8", &message(40, 0));
-    for options in [0, 8, 16, 32, 64, 128] {
-        measure(&format!("{options} options of 8"), &message(options, 0));
+    let markdown = std::env::args().any(|word| word == "--table");
+    #[cfg(libcoap)]
+    libcoap::prepare();
+    let cases: Vec<Case> = messages::cases()
+        .into_iter()
+        .map(|(name, datagrams)| Case { name, messages: datagrams.into_iter().map(Message::of).collect() })
+        .collect();
+    for case in &cases {
+        case.messages.iter().for_each(|message| agreement::check(&case.name, message));
     }
-    for payload in [0, 1 << 10, 4 << 10, 16 << 10, 64 << 10] {
-        measure(&format!("{payload} of payload"), &message(0, payload));
-    }
+    let read = [
+        ("flat", "coap-lite"),
+        ("flat", "libcoap"),
+        ("flat", "C"),
+        ("cursor", "coap-lite"),
+        ("cursor", "libcoap"),
+        ("cursor", "C walk"),
+    ];
+    let write = [
+        ("flat", "coap-lite"),
+        ("flat", "libcoap"),
+        ("flat", "C"),
+        ("builder", "coap-lite"),
+        ("builder", "libcoap"),
+        ("builder", "C"),
+    ];
+    let tables = [
+        timed_table(markdown, "read", &cases, readers, &read),
+        timed_table(markdown, "write", &cases, writers, &write),
+        timed_table(markdown, "read and write", &cases, copiers, &[("flat", "coap-lite")]),
+    ];
+    growth(markdown, "read", &tables[0]);
+    growth(markdown, "write", &tables[1]);
+    goals(markdown, &tables);
 }
 
-fn measure(name: &str, datagram: &[u8]) {
-    check(name, datagram);
-    let mut numbers = [0; MOST_NUMBERS];
-    let mut bytes = vec![0; MOST_BYTES];
-    let theirs = Packet::from_bytes(datagram).unwrap();
-    read(datagram, &mut numbers);
-    let flat = numbers;
-    let pairs = [
-        least(|| read(black_box(datagram), black_box(&mut numbers)) as u64, || Packet::from_bytes(black_box(datagram))),
-        least(
-            || write(black_box(&flat), black_box(datagram), black_box(&[]), black_box(&mut bytes)),
-            || black_box(&theirs).to_bytes_unlimited(),
-        ),
-        least(
-            || copy(black_box(datagram), black_box(&mut bytes)),
-            || Packet::from_bytes(black_box(datagram)).map(|packet| packet.to_bytes_unlimited()),
-        ),
-    ];
-    print!("{name:26}{:>8}", datagram.len());
-    for (ours, theirs) in pairs {
-        print!("{ours:>9.0}{theirs:>9.0}{:>9.2}", ours / theirs);
+fn readers(messages: &[Message]) -> Sides<'_> {
+    let mut sides: Sides = vec![("coap-lite", side(messages, |m, _| Packet::from_bytes(&m.datagram)))];
+    #[cfg(libcoap)]
+    sides.push(("libcoap", side(messages, |m, _| libcoap::parse(&m.datagram))));
+    sides.push(("C", side(messages, |m, room| floor::read(&m.datagram, &mut room.numbers))));
+    sides.push(("C walk", side(messages, |m, _| floor::walk(&m.datagram))));
+    sides.push(("packet", side(messages, |m, _| timed::packet_read(&m.datagram))));
+    sides.push(("flat", side(messages, |m, room| now::read(&m.datagram, &mut room.numbers))));
+    sides.push(("cursor", side(messages, |m, _| timed::cursor(&m.datagram))));
+    sides
+}
+
+fn writers(messages: &[Message]) -> Sides<'_> {
+    let mut sides: Sides = vec![("coap-lite", side(messages, |m, _| m.theirs.to_bytes_unlimited()))];
+    #[cfg(libcoap)]
+    sides.push(("libcoap", side(messages, |m, _| libcoap::write(&m.flat, &m.datagram))));
+    sides.push(("C", side(messages, |m, room| floor::write(&m.flat, &m.datagram, &mut room.bytes))));
+    sides.push(("packet", side(messages, |m, room| timed::packet_write(&m.flat, &m.datagram, &mut room.bytes))));
+    sides.push(("flat", side(messages, |m, room| now::write(&m.flat, &m.datagram, &mut room.bytes))));
+    sides.push(("builder", side(messages, |m, room| timed::builder(&m.flat, &m.datagram, &mut room.bytes))));
+    sides
+}
+
+fn copiers(messages: &[Message]) -> Sides<'_> {
+    vec![
+        ("coap-lite", side(messages, |m, _| Packet::from_bytes(&m.datagram).map(|packet| packet.to_bytes_unlimited()))),
+        ("flat", side(messages, |m, room| now::copy(&m.datagram, &mut room.bytes))),
+    ]
+}
+
+/// Times all sides of an operation on all cases, and prints a line for each case: the times, and the ratios of some columns.
+fn timed_table(
+    markdown: bool,
+    operation: &str,
+    cases: &[Case],
+    sides: fn(&[Message]) -> Sides,
+    pairs: &[(&str, &str)],
+) -> Times {
+    let columns: Vec<&str> = sides(&[]).iter().map(|(name, _)| *name).collect();
+    let mut times = Times { columns, rows: Vec::new() };
+    let timed = |pair: &&(&str, &str)| times.columns.contains(&pair.0) && times.columns.contains(&pair.1);
+    let pairs: Vec<_> = pairs.iter().filter(timed).copied().collect();
+    let mut names = vec!["bytes".to_string()];
+    names.extend(times.columns.iter().map(|name| name.to_string()));
+    names.extend(pairs.iter().map(|(ours, theirs)| format!("{ours} / {theirs}")));
+    let widths: Vec<usize> = names.iter().map(|name| name.len().max(7) + 2).collect();
+    line(markdown, operation, &names, &widths);
+    rule(markdown, names.len());
+    for case in cases {
+        let running: Vec<Side> = sides(&case.messages).into_iter().map(|(_, side)| side).collect();
+        let count = case.messages.len();
+        let took = least(&running).into_iter().map(|time| time / count as f64).collect();
+        times.rows.push((case.name.clone(), took));
+        let row = times.rows.len() - 1;
+        let bytes: usize = case.messages.iter().map(|message| message.datagram.len()).sum();
+        let mut cells = vec![(bytes / count).to_string()];
+        cells.extend(times.rows[row].1.iter().map(|time| shown(*time)));
+        cells.extend(pairs.iter().map(|(ours, theirs)| format!("{:.2}", times.ratio(row, ours, theirs).unwrap())));
+        line(markdown, &case.name, &cells, &widths);
     }
     println!();
-}
-
-/// Both sides read the same message, and write it as the datagram that it was read from.
-fn check(name: &str, datagram: &[u8]) {
-    let mut numbers = [0; MOST_NUMBERS];
-    let mut bytes = vec![0; MOST_BYTES];
-    assert_eq!(read(datagram, &mut numbers), 0, "{name}");
-    let theirs = Packet::from_bytes(datagram).unwrap();
-    assert_eq!(meaning_of_flat(&numbers, datagram), meaning(&theirs), "{name}");
-    let length = write(&numbers, datagram, &[], &mut bytes) as usize;
-    assert_eq!(&bytes[..length], datagram, "{name}");
-    bytes.fill(0);
-    let length = copy(datagram, &mut bytes) as usize;
-    assert_eq!(&bytes[..length], datagram, "{name}");
-    assert_eq!(theirs.to_bytes_unlimited().unwrap(), datagram, "{name}");
-}
-
-type Meaning = ([u32; 4], Vec<u8>, Vec<(u32, Vec<u8>)>, Vec<u8>);
-
-/// What a flat form means whose ranges all lie in the datagram: home 0.
-fn meaning_of_flat(numbers: &[u32], datagram: &[u8]) -> Meaning {
-    let part = |at: usize| {
-        assert_eq!(numbers[at], 0);
-        datagram[numbers[at + 1] as usize..][..numbers[at + 2] as usize].to_vec()
-    };
-    let options = (0..numbers[10] as usize).map(|i| (numbers[11 + 4 * i], part(12 + 4 * i))).collect();
-    ([numbers[0], numbers[1], numbers[2], numbers[3]], part(4), options, part(7))
-}
-
-fn meaning(packet: &Packet) -> Meaning {
-    let kind = match packet.header.get_type() {
-        MessageType::Confirmable => 0,
-        MessageType::NonConfirmable => 1,
-        MessageType::Acknowledgement => 2,
-        MessageType::Reset => 3,
-    };
-    let code: u8 = <MessageClass as Into<u8>>::into(packet.header.code);
-    let head = [packet.header.get_version() as u32, kind, code as u32, packet.header.message_id as u32];
-    let mut options = Vec::new();
-    for (&number, values) in packet.options() {
-        options.extend(values.iter().map(|value| (number as u32, value.clone())));
-    }
-    (head, packet.get_token().to_vec(), options, packet.payload.clone())
+    times
 }

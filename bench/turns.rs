@@ -1,4 +1,4 @@
-//! The time of a call, of two sides that take turns: the least of many short runs, in nanoseconds.
+//! The time of a pass over some messages, of sides that take turns: the least of many short runs, in nanoseconds.
 
 use std::hint::black_box;
 use std::time::{Duration, Instant};
@@ -7,31 +7,72 @@ use std::time::{Duration, Instant};
 const RUN: Duration = Duration::from_micros(500);
 const RUNS: usize = 100;
 
-/// The least time for one call of each side, over runs that take turns.
-pub fn least<A, B>(mut ours: impl FnMut() -> A, mut theirs: impl FnMut() -> B) -> (f64, f64) {
-    let calls = [fitting(&mut ours), fitting(&mut theirs)];
-    let mut best = [f64::MAX; 2];
-    for _ in 0..RUNS {
-        best[0] = best[0].min(time(&mut ours, calls[0]));
-        best[1] = best[1].min(time(&mut theirs, calls[1]));
-    }
-    (best[0], best[1])
+/// The largest flat form: 11 numbers, and 4 for each of 128 options.
+pub const MOST_NUMBERS: usize = 11 + 4 * 128;
+/// The largest datagram that is read.
+const MOST_BYTES: usize = 70_000;
+
+/// What is lent to each side for its answer: the same to all, since a copy takes longer from some places to some others.
+pub struct Room {
+    pub numbers: [u32; MOST_NUMBERS],
+    pub bytes: Vec<u8>,
 }
 
-/// How many calls make up a run.
-fn fitting<A>(call: &mut impl FnMut() -> A) -> u32 {
-    let mut calls = 1;
-    while time(call, calls) * (calls as f64) < RUN.as_nanos() as f64 {
-        calls *= 2;
+impl Room {
+    pub fn new() -> Room {
+        Room { numbers: [0; MOST_NUMBERS], bytes: vec![0; MOST_BYTES] }
     }
-    calls
 }
 
-/// Nanoseconds for one of so many calls.
-fn time<A>(call: &mut impl FnMut() -> A, calls: u32) -> f64 {
+/// A side: so many passes.
+pub type Side<'a> = Box<dyn Fn(u32, &mut Room) + 'a>;
+
+/// The side that makes a call for each of some messages.
+pub fn side<'a, M, A>(messages: &'a [M], call: impl Fn(&M, &mut Room) -> A + 'a) -> Side<'a> {
+    Box::new(move |passes, room| {
+        for _ in 0..passes {
+            for message in black_box(messages) {
+                black_box(call(message, room));
+            }
+        }
+    })
+}
+
+/// The least time of a pass of each side, over runs that take turns.
+pub fn least(sides: &[Side]) -> Vec<f64> {
+    let room = &mut Room::new();
+    let passes: Vec<u32> = sides.iter().map(|side| fitting(side, room)).collect();
+    let mut best = vec![f64::MAX; sides.len()];
+    for run in 0..RUNS {
+        for (i, side) in sides.iter().enumerate() {
+            best[i] = best[i].min(deeper(run, &mut || time(side, passes[i], room)));
+        }
+    }
+    best
+}
+
+/// Calls from so many frames further down the stack. How long an array there takes to be cleared or copied depends on where it lies
+/// to a line of the cache and to a page, and this lets each side have the best of many places.
+#[inline(never)]
+fn deeper(frames: usize, call: &mut dyn FnMut() -> f64) -> f64 {
+    let frame = black_box([0u8; 48]);
+    let took = if frames == 0 { call() } else { deeper(frames - 1, call) };
+    black_box(&frame);
+    took
+}
+
+/// How many passes make up a run.
+fn fitting(side: &Side, room: &mut Room) -> u32 {
+    let mut passes = 1;
+    while time(side, passes, room) * (passes as f64) < RUN.as_nanos() as f64 {
+        passes *= 2;
+    }
+    passes
+}
+
+/// Nanoseconds of one of so many passes.
+fn time(side: &Side, passes: u32, room: &mut Room) -> f64 {
     let start = Instant::now();
-    for _ in 0..calls {
-        black_box(call());
-    }
-    start.elapsed().as_nanos() as f64 / calls as f64
+    side(passes, room);
+    start.elapsed().as_nanos() as f64 / passes as f64
 }

@@ -2,6 +2,7 @@
 //! docs/ANSWERS.md says what requests and answers are.
 #![forbid(unsafe_code)]
 
+mod builds;
 mod compaction;
 mod comparison;
 mod counts;
@@ -16,6 +17,7 @@ mod register;
 mod replays;
 mod requests;
 mod sample;
+mod steps;
 mod strict_answers;
 mod targets;
 mod uints;

@@ -2,6 +2,7 @@
 
 use crate::words::{bytes, class_word, hex, kind_number, number, or_none, yes, Parts, Words};
 use crate::words::{DEFAULT_LIMIT, LONGEST_LINE, MOST_ROOM, STORE};
+use crate::{builds, steps};
 use coap_lite::block_value::BlockValue;
 use coap_lite::error::{InvalidBlockValue, MessageError};
 use coap_lite::option_value::{OptionValueString, OptionValueU16, OptionValueU32, OptionValueU64, OptionValueU8};
@@ -29,6 +30,8 @@ fn answer_request(line: &[u8]) -> Option<String> {
         b"read" => read(words),
         b"write" => write(words),
         b"edit" => edit(words),
+        b"steps" => step_by_step(words),
+        b"build" => call_by_call(words),
         b"uint-read" => uint_read(words),
         b"uint-write" => uint_write(words),
         b"text-read" => text_read(words),
@@ -47,6 +50,8 @@ fn answer_request(line: &[u8]) -> Option<String> {
         b"is-format" => is_format(words),
         b"read-strict"
         | b"write-strict"
+        | b"steps-strict"
+        | b"build-strict"
         | b"block-new-strict"
         | b"block-read-strict"
         | b"block-write-strict"
@@ -90,10 +95,26 @@ fn written(bytes: &[u8], room: u64) -> String {
 fn read(mut words: Words) -> Option<String> {
     let datagram = words.bytes()?;
     words.end()?;
-    Some(match Packet::from_bytes(&datagram) {
-        Ok(packet) => Parts::of(&packet).shown(),
-        Err(error) => refused(refusal_number(error)),
-    })
+    Some(read_datagram(&datagram).map_or_else(refused, |parts| parts.shown()))
+}
+
+/// What coap-lite reads, or the number of its refusal.
+pub fn read_datagram(datagram: &[u8]) -> Result<Parts, u8> {
+    Packet::from_bytes(datagram).map(|packet| Parts::of(&packet)).map_err(refusal_number)
+}
+
+/// The steps of the rules, held to coap-lite.
+fn step_by_step(mut words: Words) -> Option<String> {
+    let answer = steps::answer(false, &mut words)?;
+    words.end()?;
+    Some(answer.unwrap_or_else(refused))
+}
+
+/// The calls of the rules, held to coap-lite.
+fn call_by_call(mut words: Words) -> Option<String> {
+    let answer = builds::answer(false, &mut words)?;
+    words.end()?;
+    Some(answer)
 }
 
 /// The encoder's `InvalidHeader` has no number of its own, since nothing leads there: were it met, it would be told as a

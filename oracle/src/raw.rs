@@ -8,7 +8,7 @@ use coap_lite::{MessageClass, MessageType};
 /// Rules, Packets: the most options.
 pub const MOST_OPTIONS: usize = 128;
 /// RFC 7252 3.1: an extension of two bytes is at most 65535 and stands for 269 more.
-const LONGEST_VALUE: u64 = 65_535 + 269;
+pub const LONGEST_VALUE: u64 = 65_535 + 269;
 /// RFC 7252 3: the length of a token is a nibble.
 pub const LONGEST_TOKEN: u64 = 15;
 

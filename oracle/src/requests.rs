@@ -1,4 +1,5 @@
-//! Requests to ask. The plain ones stay where coap-lite's answer is the one that the Rattle program has to give.
+//! Requests to ask. The plain ones stay where coap-lite's answer is the one that the Rattle program has to give, or, of steps
+//! and of calls, where the rules have the rest of it.
 
 mod framed;
 mod frozen;
@@ -9,6 +10,7 @@ mod ranged;
 mod registered;
 mod scripts;
 mod short;
+mod stepped;
 mod traced;
 mod typed;
 mod varied;
@@ -90,10 +92,13 @@ pub fn outside(out: &mut impl Write) -> io::Result<()> {
     lines.fault
 }
 
-/// The kinds of request that have a strict form; those that coap-lite has no answer to, with no plain form or over two stores;
-/// and those whose answers have counts of zeros, which coap-lite doesn't tell.
-const BOTH: [&str; 7] = ["read", "write", "write-raw", "block-new", "block-read", "block-write", "block-size"];
-const STRICT: [&str; 18] = [
+/// The kinds of request that have a strict form; those that coap-lite has no answer to, or not all of it: with no plain form,
+/// over two stores, by steps or by calls; and those whose answers have counts of zeros, which coap-lite doesn't tell.
+const BOTH: [&str; 9] =
+    ["read", "write", "write-raw", "block-new", "block-read", "block-write", "block-size", "steps", "build"];
+const STRICT: [&str; 20] = [
+    "steps",
+    "build",
     "register",
     "properties",
     "plan",

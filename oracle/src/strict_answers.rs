@@ -7,7 +7,8 @@ use crate::raw::{Raw, MOST_OPTIONS};
 use crate::uints::Uint;
 use crate::words::{hex, kind, kind_number, number, yes, Parts, Words, DEFAULT_LIMIT, LONGEST_LINE, MOST_ROOM};
 use crate::{
-    compaction, counts, edits, frames, freezing, getters, plain_answers, plans, register, replays, targets, uints,
+    builds, compaction, counts, edits, frames, freezing, getters, plain_answers, plans, register, replays, steps,
+    targets, uints,
 };
 use coap_lite::MessageClass;
 
@@ -41,6 +42,10 @@ fn answer_request(line: &[u8]) -> Option<Judged<String>> {
         b"write-strict" => write(limit(words.word()?)?, words.number(MOST_ROOM)?, &Raw::named(&mut words)?),
         b"write-raw" => kept(write_plain(limit(words.word()?)?, words.number(MOST_ROOM)?, &Raw::of(&mut words)?)),
         b"write-raw-strict" => kept(write(limit(words.word()?)?, words.number(MOST_ROOM)?, &Raw::of(&mut words)?)),
+        b"steps" => steps::answer(false, &mut words)?,
+        b"steps-strict" => steps::answer(true, &mut words)?,
+        b"build" => Ok(builds::answer(false, &mut words)?),
+        b"build-strict" => Ok(builds::answer(true, &mut words)?),
         b"block-new-strict" => block_new(words.number(u64::MAX)?, words.flag()?, words.number(u64::MAX)?),
         b"block-read" => plain_block_read(&words.bytes()?),
         b"block-read-strict" => block_read(&words.bytes()?),
@@ -190,11 +195,7 @@ pub fn layout(limit: u64, packet: &Raw) -> Judged<Vec<u8>> {
     bytes.extend(&packet.token);
     let mut before = 0;
     for (number, value) in &packet.options {
-        // 3.1: a byte of two nibbles, the extension of each, the value
-        let (delta, delta_extension) = extended(usize::from(number - before));
-        let (length, length_extension) = extended(value.len());
-        bytes.push(delta << 4 | length);
-        bytes.extend([&delta_extension[..], &length_extension, value].concat());
+        bytes.extend(option_bytes(number - before, value));
         before = *number;
     }
     if !packet.payload.is_empty() {
@@ -209,6 +210,13 @@ pub fn layout(limit: u64, packet: &Raw) -> Judged<Vec<u8>> {
 fn write_plain(limit: u64, room: u64, packet: &Raw) -> Judged<String> {
     packet.judge()?;
     Ok(plain_answers::write_packet(&packet.meaning().packet(), Some(limit as usize), room))
+}
+
+/// 3.1: a byte of two nibbles, the extension of each, the value.
+pub fn option_bytes(delta: u16, value: &[u8]) -> Vec<u8> {
+    let (delta, delta_extension) = extended(usize::from(delta));
+    let (length, length_extension) = extended(value.len());
+    [&[delta << 4 | length], &delta_extension[..], &length_extension, value].concat()
 }
 
 /// 3.1: the nibble of a number, and its extension.

@@ -27,10 +27,14 @@ pub fn answer(
     if name.index != NOWHERE {
         return plan_requests::answer(name, line, store, out, place);
     }
+    let name = cursor_requests::named(line);
+    if name.index != NOWHERE {
+        return cursor_requests::answer(name, line, store, out, place);
+    }
     answer_more(line, store, room, out, place)
 }
 
-// Answers a request on compaction, paths, streams or replays, or one that is answered by value.
+// Answers a request on building, compaction, paths, streams or replays, or one that is answered by value.
 fn answer_more(
     line: &[u8],
     store: &mut [u8],
@@ -38,6 +42,10 @@ fn answer_more(
     out: &mut [u8],
     place: usize,
 ) -> usize {
+    let name = building_requests::named(line);
+    if name.index != NOWHERE {
+        return building_requests::answer(name, line, store, room, out, place);
+    }
     let name = compact_requests::named(line);
     if name.index != NOWHERE {
         return compact_requests::answer(line, name.next, store, room, out, place);

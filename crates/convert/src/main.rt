@@ -27,9 +27,18 @@ fn convert_over(window: &mut [u8; 65536], out: &mut [u8; 65536]) {
     }
 }
 
-// Judges the stream, and converts it where it is one.
+// Finds the form of the stream, and converts it from that.
 fn convert(input: Input, window: &mut [u8], out: &mut [u8]) {
-    let form = form_of(input, window);
+    let front = reread::front(input, window);
+    if front.failed {
+        return;
+    }
+    let form = form_of(part(window, 0, front.count));
+    convert_from(input, form, window, out);
+}
+
+// Judges the stream, and converts it where it is one.
+fn convert_from(input: Input, form: Form, window: &mut [u8], out: &mut [u8]) {
     let judged = pass(input, form, Work::Judge, window, out);
     let outcome = judged.outcome;
     match outcome {

@@ -39,7 +39,9 @@ use Rattle.measuring.specs.Measuring.{sentPayload, strictly, limited}
 use Rattle.measuring.specs.declared.Limit.the-variants.{Unlimited}
 use Rattle.writing.specs.Writing.{sent, bytesWritten, writing}
 use Rattle.writing.proofs.Strict.{passes, wellformed-strict}
-use Rattle.ffi.specs.Copied.{sentEnd, copying, lengthIn, packetOf as packetIn}
+use Rattle.flat_writing.specs.FlatWriting.{copying, packetOf as packetIn}
+use Rattle.flat_measuring.proofs.Sent.{empty-class, sent-other}
+use Rattle.ffi.specs.Copied.{sentEnd, lengthIn}
 use Rattle.scanning.specs.Scanning.{Span, lastEnd, spanOf, judged}
 use Rattle.scanning.proofs.Judged.{given-read}
 
@@ -80,20 +82,9 @@ sent-either P false (Request r) payload h n = h
 sent-either P false (Response r) payload h n = h
 sent-either P false (Reserved b) payload h n = h
 
-sent-other : (strict : Bool) (class : MessageClass) (payload : Range) → (byteOf class ≡ 0 → ⊥) → sentPayload strict class payload ≡ payload
-sent-other true class payload h = refl
-sent-other false Empty payload h = absurd (h refl)
-sent-other false (Request r) payload h = refl
-sent-other false (Response r) payload h = refl
-sent-other false (Reserved b) payload h = refl
-
 raw-code : (s : List ℕ) (raw : HeaderRaw) → 4 ≤ length s → rawIn s ≡ given raw → raw .code ≡ getD s 1 0
 unfolding rawIn
 raw-code s raw h e = let f = rw (le-ltb (length s) 4 h) at e in cc
-
-empty-class : classOf 0 ≡ Empty
-unfolding classOf
-empty-class = refl
 
 module _ (strict : Bool) (s : List ℕ) (b : Bytes s) (p : Packet) (k : Taken strict s p) where
   -- The bytes before the end of the options.

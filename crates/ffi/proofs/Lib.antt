@@ -1,4 +1,3 @@
-pub mod Answered
 pub mod Numbers
 pub mod ReadBack
 pub mod Again

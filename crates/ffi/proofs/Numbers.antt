@@ -33,7 +33,8 @@ use Rattle.measuring.proofs.Sizes.{marker-small}
 use Rattle.writing.proofs.Sizes.{sent-inside, written-length}
 use Rattle.flat.specs.Flat.{flat, putting}
 use Rattle.ffi.specs.Handed.{handed, numberIn}
-use Rattle.ffi.specs.Copied.{copying, lengthIn as numberOf}
+use Rattle.flat_writing.specs.FlatWriting.{copying}
+use Rattle.ffi.specs.Copied.{lengthIn as numberOf}
 
 -- Neither of two stores that are not too long has over 70,000 bytes.
 short : (lengths : Lengths) → tooLong lengths ≡ false → (h : Home) → lengthIn lengths h ≤ 70000

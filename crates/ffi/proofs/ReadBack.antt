@@ -38,7 +38,7 @@ use Rattle.flat.specs.Flat.{flat}
 use Rattle.unflat.specs.Made.{Spared, Made}
 use Rattle.unflat.proofs.Inverse.{unflat-flat}
 use Rattle.unflat.proofs.Longer.{longer}
-use Rattle.ffi.specs.Copied.{packetOver, copying}
+use Rattle.flat_writing.specs.FlatWriting.{packetOver, copying}
 
 -- What holds of every packet that is read, whatever the bytes: its class, its spare fields, and its array past the count.
 record Filled (p : Packet) : Type 0 where

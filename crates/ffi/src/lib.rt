@@ -3,25 +3,22 @@
 // the payload, count of records, and then number, home, start and length of each record. A home is 0 for the datagram and 1
 // for the edit store. What takes or gives the flat form has its version in its name, so that a caller of another version
 // does not link.
-use judging::Lengths;
 use refusal::Outcome;
 use refusal::Refusal;
 use refusal::Written;
 use scanning::Extent;
-use unflat::Taken;
-use writing::Limit;
 ghost use mathlib.Core.Path.{_≡_};
 ghost use mathlib.Core.List.{[]};
 ghost use Prim.Native.Nat.{_≤_};
 ghost use lib.ListN.{length, take};
-ghost use Rattle.refusal.specs.Answer.{written, outcome, after, fitted, answered};
+ghost use Rattle.refusal.specs.Answer.{written, outcome, after, fitted};
 ghost use Rattle.packet.specs.Packet.{stores};
 ghost use Rattle.reading.specs.Reading.{reading};
 ghost use Rattle.writing.specs.Writing.{bytesWritten};
 ghost use Rattle.flat.specs.Flat.{flat};
-ghost use Rattle.unflat.specs.Unflat.{taken};
+ghost use Rattle.flat_writing.specs.FlatWriting.{packetOf, packetOver, copying};
 ghost use Rattle.ffi.specs.Handed.{handed, numberIn};
-ghost use Rattle.ffi.specs.Copied.{packetOf, packetOver, copying, lengthIn, sentEnd};
+ghost use Rattle.ffi.specs.Copied.{lengthIn, sentEnd};
 
 // The version of the flat form.
 #[no_mangle]
@@ -55,11 +52,7 @@ pub extern "C" fn rickwinter_v2_write<'a>(
     ensures { λ r. ⌜ r ≡ lengthIn (copying strict (length (now (out .entry))) (stores (now (datagram .entry)) (now (edits .entry))) (packetOver (stores (now (datagram .entry)) (now (edits .entry))) (now (packet .entry)))) ⌝ }
     ensures { λ r. ⌜ now (out .exit) ≡ after (copying strict (length (now (out .entry))) (stores (now (datagram .entry)) (now (edits .entry))) (packetOver (stores (now (datagram .entry)) (now (edits .entry))) (now (packet .entry)))) 0 (bytesWritten strict (stores (now (datagram .entry)) (now (edits .entry))) (packetOf (packetOver (stores (now (datagram .entry)) (now (edits .entry))) (now (packet .entry))))) (now (out .entry)) ⌝ }
 {
-    let lengths = Lengths::of(datagram, edits);
-    if lengths.too_long() {
-        return length_or_refusal(Written::Refused(Refusal::TooLong));
-    }
-    length_or_refusal(write_over(strict, unflat::packet_in(packet), datagram, edits, out))
+    length_or_refusal(flat_writing::write(strict, packet, datagram, edits, out))
 }
 
 // Reads a datagram and writes its packet again, without a limit. The length of what stands at the start of the output; or
@@ -106,27 +99,6 @@ fn put_front(out: &mut [u8], datagram: &[u8], last: usize) -> Written
         return Written::Refused(Refusal::NoRoom);
     }
     Written::Length(placing::put_bytes(out, 0, &datagram[..last]))
-}
-
-// What was taken out of numbers, written.
-fn write_over<'a>(
-    strict: bool,
-    from: Taken,
-    datagram: &'a [u8],
-    edits: &'a [u8],
-    out: &mut [u8],
-) -> Written
-    ensures { λ r. ⌜ written r ≡ copying strict (length (now (out .entry))) (stores (now (datagram .entry)) (now (edits .entry))) (answered (taken from)) ⌝ }
-    ensures { λ r. ⌜ now (out .exit) ≡ after (copying strict (length (now (out .entry))) (stores (now (datagram .entry)) (now (edits .entry))) (answered (taken from))) 0 (bytesWritten strict (stores (now (datagram .entry)) (now (edits .entry))) (from .packet)) (now (out .entry)) ⌝ }
-{
-    let how = from.outcome;
-    match how {
-        Outcome::Refused(e) => Written::Refused(e),
-        Outcome::Done => {
-            let packet = from.packet;
-            writing::to_bytes_in(strict, Limit::Unlimited, packet, datagram, edits, out)
-        }
-    }
 }
 
 // 0 where all was done, else the refusal's number.

@@ -12,24 +12,25 @@ use Rattle.ground.specs.Part.{Bytes}
 use Rattle.ground.proofs.Choice.{by-lt}
 use Rattle.rfc.specs.Message.{Message, WellFormed, layout, headerLayout}
 use Rattle.rfc.specs.Frame.{body, frameHead, frame}
-use Rattle.refusal.specs.Answer.{Answer, given, refused, onward, outcome, Beside, beside}
+use Rattle.refusal.specs.Answer.{Answer, given, refused, onward, outcome}
 use Rattle.refusal.specs.Number.{numberOf}
 use Rattle.refusal.specs.declared.Refusal.{Refusal}
 use Rattle.refusal.specs.declared.Outcome.{Outcome}
 use Rattle.refusal.specs.declared.Outcome.the-variants.{Done, Refused as Not}
 use Rattle.refusal.specs.declared.Written.the-variants.{Refused}
-use Rattle.refusal.proofs.Answers.{not-refused, same-refused, onward-given, on-given}
+use Rattle.refusal.proofs.Answers.{not-refused, on-given}
 use Rattle.header.specs.Header.{rawBytes, versionOf, tokenOf}
 use Rattle.header.specs.declared.MessageType.{MessageType}
 use Rattle.header.proofs.Raw.{type-small}
 use Rattle.packet.specs.Meaning.{meaning}
-use Rattle.packet.specs.Packet.{stores, newPacket}
+use Rattle.packet.specs.Packet.{stores}
 use Rattle.packet.specs.declared.Packet.{Packet}
-use Rattle.reading.specs.Reading.{FromBytes, reading}
-use Rattle.reading.specs.declared.Decoded.{Decoded}
+use Rattle.reading.specs.Reading.{reading}
 use Rattle.reading.proofs.Accept as Accept
+use Rattle.cursor.specs.Cursor.{accepting}
+use Rattle.cursor.proofs.Accepting.{accepting-refused, accepting-given}
 use Rattle.framing.specs.Head.{Within, Begins, headIn}
-use Rattle.framing.specs.Judging.{accepted, judged}
+use Rattle.framing.specs.Judging.{judged}
 use Rattle.framing.specs.Framing.{framed, strictly, headerFor, datagramOf, unframed, Whole, frameOf, Converts}
 use Rattle.framing.specs.declared.Head.{Head}
 use Rattle.framing.specs.declared.HeadBytes.{HeadBytes}
@@ -39,23 +40,10 @@ use Rattle.framing.proofs.Judged.{strictly-judged, strictly-long}
 pub not-converted : (a : Answer (List ℕ)) (old : List ℕ) (e : Refusal) → a ≡ refused (numberOf e) → Converts a old (Refused e) old
 not-converted a old e is = record { answer = rw is; output = rw is }
 
--- The strict reader's answer without its packet.
-alone : {A : Type 0} (old : A) (a : Answer A) → beside old a .answer ≡ onward a (λ _. given tt)
-alone old (given v) = refl
-alone old (refused k) = refl
-
-pub accepts : (s : List ℕ) (d : Decoded) → FromBytes true s d → outcome (d .outcome) ≡ accepted s
-unfolding accepted
-accepts s d e = ap (λ (b : Beside Packet). b .answer) e ∙ alone newPacket (reading true s)
-
--- Where it refuses, there is no frame.
-refused-so : {A B : Type 0} (a : Answer A) (f : A → B) (k : ℕ) → onward {B = Unit {0}} a (λ _. given tt) ≡ refused k → onward a (λ v. given (f v)) ≡ refused k
-refused-so (given v) f k e = not-refused e
-refused-so (refused j) f k e = ap refused (same-refused e)
-
-pub framed-refused : (s : List ℕ) (k : ℕ) → accepted s ≡ refused k → framed s ≡ refused k
-unfolding accepted framed
-framed-refused s k e = refused-so (reading true s) (λ p. frame (meaning (stores s []) p)) k e
+-- Where the strict reader refuses, there is no frame.
+pub framed-refused : (s : List ℕ) (k : ℕ) → accepting true s ≡ refused k → framed s ≡ refused k
+unfolding framed
+framed-refused s k e = rw (accepting-refused true s k e)
 
 -- The frame of a well-formed message, by the bytes of its layout.
 module _ (m : Message) (w : WellFormed m) where
@@ -77,10 +65,9 @@ module _ (m : Message) (w : WellFormed m) where
   token-fits = omega (arith, token-in, long)
 
 -- Where it accepts, the datagram is short and has its token, and its frame is made of its bytes.
-module _ (s : List ℕ) (b : Bytes s) (e : accepted s ≡ given tt) where
+module _ (s : List ℕ) (b : Bytes s) (e : accepting true s ≡ given tt) where
   read : (p : Packet) × (reading true s ≡ given p)
-  unfolding accepted
-  read = let r = onward-given (reading true s) _ tt e in (r .0, r .1)
+  read = accepting-given true s e
 
   laid : WellFormed (meaning (stores s []) (read .0)) × (layout (meaning (stores s []) (read .0)) ≡ s)
   laid = on-given _ (reading true s) (read .0) (Accept.accepted s b) (read .1) []

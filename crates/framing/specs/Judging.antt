@@ -1,6 +1,5 @@
 -- What strict reading refuses, with no packet made.
 use Prim.Native.Nat.{ℕ, _+_}
-use mathlib.Core.Bool.{true}
 use mathlib.Core.List.{List}
 use lib.ListN.{length}
 use lib.Dec.{ltb, eqb}
@@ -8,11 +7,6 @@ use Rattle.ground.specs.Choice.{pick, both}
 use Rattle.refusal.specs.Answer.{Answer, given, refused, onward}
 use Rattle.packet.specs.Limits.{maxOptions, maxValue}
 use Rattle.reading.specs.Options.{Tail, options}
-use Rattle.reading.specs.Reading.{reading}
-
--- Whether strict reading accepts a datagram.
-unfoldable pub accepted : List ℕ → Answer (Unit {0})
-accepted s = onward (reading true s) (λ p. given tt)
 
 -- A marker that ends the message gives 9.
 abbrev pub endJudged : List ℕ → Tail → Answer (Unit {0})

@@ -7,7 +7,6 @@ use packet::limits::MAX_OPTIONS;
 use packet::limits::MAX_STORE;
 use packet::limits::MAX_VALUE;
 use placing::put_bytes;
-use reading::from_bytes_strict;
 use refusal::Outcome;
 use refusal::Refusal;
 use refusal::Written;
@@ -21,26 +20,17 @@ ghost use Rattle.rfc.specs.Frame.{frameHead};
 ghost use Rattle.refusal.specs.Answer.{given, outcome};
 ghost use Rattle.packet.specs.Limits.{maxOptions, maxStore};
 ghost use Rattle.framing.specs.Head.{ByteAt, Begins, extra, lengthIn, headIn, headRead, Within};
-ghost use Rattle.framing.specs.Judging.{accepted, judged, optionsJudged};
+ghost use Rattle.framing.specs.Judging.{judged, optionsJudged};
 ghost use Rattle.framing.specs.Framing.{Converts, Whole, frameOf, strictly, datagramOf, ToFrame, FromFrame};
 
 // Writes the frame of the message that a datagram holds.
 pub fn to_frame(datagram: &[u8], out: &mut [u8]) -> Written
     ensures { λ r. ⌜ ToFrame (now (datagram .entry)) (now (out .entry)) r (now (out .exit)) ⌝ }
 {
-    match read_strictly(datagram) {
+    match cursor::judge(true, datagram) {
         Outcome::Refused(e) => Written::Refused(e),
         Outcome::Done => put_frame(datagram, out),
     }
-}
-
-// Whether strict reading accepts a datagram, or why it doesn't.
-fn read_strictly(datagram: &[u8]) -> Outcome
-    ensures { λ r. ⌜ outcome r ≡ accepted (now (datagram .entry)) ⌝ }
-{
-    let read = from_bytes_strict(datagram);
-    let outcome = read.outcome;
-    outcome
 }
 
 // Writes the frame of a datagram that was accepted.

@@ -20,13 +20,10 @@ pub enum Work {
     Convert,
 }
 
-// The form of a stream that is in one of the two: its first chunk, behind the first peer, is of kind 2 in the old form only.
-pub fn form_of(input: Input, window: &mut [u8]) -> Form {
-    if !reread::rewound(input) {
-        return Form::New;
-    }
-    let filled = reread::fill(input.fd, window, 0);
-    if words::byte_at(part(window, 0, filled.count), 19) == 2 {
+// The form of a stream that is in one of the two, by its front: its first chunk, behind the first peer, is of kind 2 in the old
+// form only.
+pub fn form_of(front: &[u8]) -> Form {
+    if words::byte_at(front, 19) == 2 {
         return Form::Old;
     }
     Form::New

@@ -9,7 +9,9 @@ use refusal::Outcome;
 use refusal::Written;
 use stream::Form;
 use stream::Step;
+use stream::message_at;
 use thawing::next_message;
+use thawing::strict_at;
 use walks::Walk;
 use words::part;
 
@@ -49,49 +51,61 @@ fn is_cut(length: usize, at: usize, ended: bool) -> bool {
     !ended && length - at < MOST
 }
 
+// Does the work on the next message, and goes on behind it.
 fn take_message(form: Form, work: Work, walk: Walk, window: &[u8], out: &mut [u8]) -> Walk {
+    match work {
+        Work::Judge => judge(form, walk, window),
+        Work::Show => show(form, walk, window, out),
+        Work::Convert => convert(form, walk, window, out),
+    }
+}
+
+// Judges a message where it stands. One that is refused is asked for again, since a bad datagram decides only where the rest is
+// a stream.
+fn judge(form: Form, walk: Walk, window: &[u8]) -> Walk {
+    let at = walk.waiting;
+    let place = walk.place;
+    match strict_at(form, window, at) {
+        Step::Message { len: _, next } => walk.passing(Outcome::Done, next, place),
+        Step::Refused(why) => match message_at(form, window, at) {
+            Step::Refused(_) => walk.refusing(why),
+            Step::Message { len: _, next } => walk.passing(Outcome::Refused(why), next, place),
+        },
+    }
+}
+
+// Shows a message: its datagram is copied, to be read in one piece.
+fn show(form: Form, walk: Walk, window: &[u8], out: &mut [u8]) -> Walk {
     let at = walk.waiting;
     let mut bytes = [0u8; 1280];
     match next_message(form, window, at, &mut bytes, 0) {
         Step::Refused(why) => walk.refusing(why),
         Step::Message { len, next } => {
-            let datagram = part(&bytes, 0, len);
-            let message = part(window, at, next);
-            work_on(form, work, walk, message, datagram, next, out)
+            let place = put_peer_line(part(window, at, next), out, walk.place);
+            show_datagram(walk, part(&bytes, 0, len), next, out, place)
         }
     }
 }
 
-// Does the work on a message, whose datagram was copied, and goes on behind it.
-fn work_on(
-    form: Form,
-    work: Work,
-    walk: Walk,
-    message: &[u8],
-    datagram: &[u8],
-    next: usize,
-    out: &mut [u8],
-) -> Walk {
-    let place = walk.place;
-    match work {
-        Work::Judge => {
-            let read = from_bytes_strict(datagram);
-            let outcome = read.outcome;
-            walk.passing(outcome, next, place)
-        }
-        Work::Show => {
-            let read = from_bytes_strict(datagram);
-            let outcome = read.outcome;
-            let place = put_peer_line(message, out, place);
-            let place = put_decoded(out, place, read, datagram, b'\n');
-            walk.passing(outcome, next, place)
-        }
-        Work::Convert => convert(form, walk, message, next, out),
-    }
+fn show_datagram(walk: Walk, datagram: &[u8], next: usize, out: &mut [u8], from: usize) -> Walk {
+    let read = from_bytes_strict(datagram);
+    let outcome = read.outcome;
+    let place = put_decoded(out, from, read, datagram, b'\n');
+    walk.passing(outcome, next, place)
 }
 
 // Puts a message in the other form.
-fn convert(form: Form, walk: Walk, message: &[u8], next: usize, out: &mut [u8]) -> Walk {
+fn convert(form: Form, walk: Walk, window: &[u8], out: &mut [u8]) -> Walk {
+    let at = walk.waiting;
+    match message_at(form, window, at) {
+        Step::Refused(why) => walk.refusing(why),
+        Step::Message { len: _, next } => {
+            convert_message(form, walk, part(window, at, next), next, out)
+        }
+    }
+}
+
+fn convert_message(form: Form, walk: Walk, message: &[u8], next: usize, out: &mut [u8]) -> Walk {
     let mut other = [0u8; 1396];
     let place = walk.place;
     match converting::convert(form, message, &mut other) {

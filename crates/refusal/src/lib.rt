@@ -12,11 +12,11 @@ pub enum Refusal {
     // The delta nibble is 15 and the byte isn't FF, the extended delta is over 65535, or the sum of the deltas is.
     InvalidOptionDelta,
     // An extension is cut off, the length nibble is 15, or the value runs past the end. Plain only: a two-byte length
-    // extension of 65267 or more.
+    // extension of 65267 or more. A cursor: its position is past the end.
     InvalidOptionLength,
     // The counted size is over the limit.
     InvalidPacketLength,
-    // A 129th record would be stored.
+    // A 129th record would be stored, or an option is passed that a cursor has no room for.
     TooManyOptions,
     // Strict: the version isn't 1.
     WrongVersion,
@@ -24,12 +24,13 @@ pub enum Refusal {
     EmptyCarries,
     // Strict: FF in option position is the last byte.
     MarkerAlone,
-    // The datagram, that which a frame would come back as, or the edit store is over 70,000 bytes, where it is lent (getters
-    // take any). The program `listing`: over 65,535.
+    // The datagram, that which a frame would come back as, the edit store, or the payload of a message that is built is over
+    // 70,000 bytes, where it is lent (getters take any). The program `listing`: over 65,535.
     TooLong,
     // What reads a whole packet: a version over 3, over 128 records, numbers that fall, a range outside the store that it
     // names, a token over 15 bytes or a value over 65804. An edit: over 128 records, numbers that fall, a token over 15 bytes
-    // that is set, or a home that is neither 0 nor 1. A flat form: numbers that are no packet's.
+    // that is set, or a home that is neither 0 nor 1. A flat form: numbers that are no packet's. A message that is built: a
+    // version over 3, a token over 15 bytes, a number that falls, a value over 65804 or a 129th option.
     BadRecord,
     // The output, or the edit store after the named start, is shorter than the bytes to write, or the start is past its end.
     // The lent list is shorter than our plan, or than three numbers for each message of a stream. Compaction: the live bytes
@@ -50,7 +51,7 @@ pub enum Refusal {
     // A block number over 65535 plain, over 1,048,575 strict.
     BlockNumber,
     // A record, an order of records or a message's length, anywhere in a freeze stream, that its form doesn't have. In a trace
-    // also a time that is missing or out of place.
+    // also a time that is missing or out of place. A datagram that is judged in its chunks ends past the stream.
     BadFreeze,
     // A frame has fewer bytes than its two nibbles call for, or more.
     BadFrame,

@@ -32,7 +32,11 @@ fn replay_over(window: &mut [u8; 65536], out: &mut [u8; 65536]) {
 
 // Judges the trace, and replays it where it is one.
 fn replay(input: Input, window: &mut [u8], out: &mut [u8]) {
-    let form = form_in(input, window);
+    let front = reread::front(input, window);
+    if front.failed {
+        return;
+    }
+    let form = form_of(part(window, 0, front.count));
     let judged = pass(input, form, Work::Judge, window, out);
     let walk = judged.walk;
     let outcome = walk.outcome;
@@ -50,15 +54,6 @@ fn show(input: Input, form: Form, failed: bool, window: &mut [u8], out: &mut [u8
     let replayed = pass(input, form, Work::Replay, window, out);
     let place = shown::put_tally(out, replayed);
     report(replayed, place, out);
-}
-
-// The form of the trace, by its first bytes.
-fn form_in(input: Input, window: &mut [u8]) -> Form {
-    if !reread::rewound(input) {
-        return Form::New;
-    }
-    let filled = reread::fill(input.fd, window, 0);
-    form_of(part(window, 0, filled.count))
 }
 
 // The verdict, as the last line; nothing where reading or writing failed, of which standard error has a line.

@@ -118,6 +118,18 @@ pub fn fill(fd: i32, window: &mut [u8], waiting: usize) -> Filled {
     }
 }
 
+// Fills the window from where the input begins.
+pub fn front(input: Input, window: &mut [u8]) -> Filled {
+    if rewound(input) {
+        return fill(input.fd, window, 0);
+    }
+    Filled {
+        count: 0,
+        ended: true,
+        failed: true,
+    }
+}
+
 // What of an input stands in a window, from where to where; whether the input ends with it, and whether reading failed; and how often
 // the window was filled.
 pub struct View {

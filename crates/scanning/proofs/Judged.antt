@@ -7,6 +7,7 @@ use native.Mathlib.Omega.{arith}
 use lib.ListN.{length, getD, take, set, length-set, length-append}
 use lib.Seq.{sets, getD-set-same, getD-set-other, take-append-le, take-append-seam}
 use lib.Dec.{eqb, ltb}
+use borrow.Author.Tests.{le-leb, lt-leb, not-false}
 use Rattle.ground.specs.Choice.{both, either}
 use Rattle.ground.specs.Part.{Bytes}
 use Rattle.ground.proofs.Choice.{on, on-lt, by-lt}
@@ -24,13 +25,14 @@ use Rattle.reading.specs.Options.{Tail, options}
 use Rattle.reading.specs.Headed.{goodHeader, headed}
 use Rattle.reading.specs.Reading.{longest, packetOf, finished, reading}
 use Rattle.reading.proofs.Accept.{records-found, found as follows}
+use Rattle.reading.proofs.Headed.{Opened, headed-opens}
 use Rattle.reading.proofs.Taken.{Taken, taken}
 use Rattle.reading.proofs.Walk.{ahead, ahead-none, ahead-before, options-refused, options-ended, options-full, options-more}
 use Rattle.flat.specs.Flat.{flatHead, flatRecords, flat}
 use Rattle.flat.proofs.Flat.{no-room, puts}
 use Rattle.scanning.specs.Scanning.{Span, lastEnd, spanOf, judged, scanned, flatRead}
 use Rattle.scanning.proofs.Plain.{last-end}
-use Rattle.scanning.specs.Plain.{headIn, start, found, optionsFrom, spanned, spans, Places, Noted}
+use Rattle.scanning.specs.Plain.{headIn, start, found, optionsFrom, spanned, spans, Places, stands, Open}
 
 -- The walk that notes places. Before an option: the whole answer is that of what is left with the options so far put before it,
 -- whose places are noted.
@@ -160,10 +162,67 @@ headed-at strict s =
     (λ f. on (Given P) (either (ltb 8 (tokenOf raw)) (ltb (length s) (4 + tokenOf raw))) (λ f. tt)
     (λ f. on (Given P) (both strict (both (eqb (raw .code) 0) (either (ltb 4 (length s)) (not (eqb (tokenOf raw) 0))))) (λ f. tt) (λ f. e)))))
 
--- The places are those of a datagram that is judged good, where they are those of its options.
-pub noted-any : (strict : Bool) (s : List ℕ) (a : Answer Span) (places : List ℕ) → Places (start s) (optionsFrom strict s (start s)) places → Noted strict s a places
-noted-any strict s (given m) places h = h
-noted-any strict s (refused k) places h = tt
+-- A header that is refused refuses the datagram, and a good one leaves it to the options.
+module _ (strict : Bool) (s : List ℕ) where
+  pub headed-refused : (k : ℕ) → headed strict s ≡ refused k → reading strict s ≡ refused k
+  headed-refused k e = subst (Opened strict s (reading strict s)) e (headed-opens strict s) .is
+
+  pub headed-open : (raw : HeaderRaw) → headed strict s ≡ given raw → Open strict s (4 + tokenOf raw)
+  headed-open raw e =
+      let o = subst (Opened strict s (reading strict s)) e (headed-opens strict s) in
+      let first : raw ≡ rawAt s = on-given (λ (r : HeaderRaw). r ≡ rawAt s) (headed strict s) raw (headed-at strict s) e in
+      record {
+        is = ap (λ (r : HeaderRaw). 4 + tokenOf r) first;
+        inside = o .roomy .0;
+        short = o .roomy .1;
+        rest = ap (λ (x : Answer Packet). onward x (λ p. given (spanOf p))) (o .is)
+            ∙ sym (spanned-is strict s raw (options (longest strict) s 128 0 (4 + tokenOf raw)));
+      }
+
+never : (strict : Bool) → both strict false ≡ false
+never true = refl
+never false = refl
+
+-- Where no option stands there are none: the walk ends at the datagram's end, or with the marker.
+module _ (strict : Bool) (s : List ℕ) (at : ℕ) where
+  none-at-end : at ≤ length s → length s ≤ at → options (longest strict) s 128 0 at ≡ given (record { records = []; marked = false; payload = at })
+  unfolding placeAt
+  none-at-end i h =
+      let e : length s ≡ at = omega arith in
+      options-ended (longest strict) s 128 0 at false at (rw (le-leb (length s) at h) (ap (λ (n : ℕ). given (ended false n)) e))
+
+  marked-at : at < length s → stands s at ≡ false → options (longest strict) s 128 0 at ≡ given (record { records = []; marked = true; payload = at + 1 })
+  unfolding placeAt stands
+  marked-at h n =
+      let b = lt-leb (length s) at h in
+      let m : eqb (getD s at 0) 255 ≡ true = not-false (eqb (getD s at 0) 255) (rw b at n) in
+      options-ended (longest strict) s 128 0 at true (at + 1) (rw (b, m))
+
+  none-stand : at ≤ length s → stands s at ≡ false → optionsFrom strict s at ≡ []
+  none-stand i n = by-lt at (length s) (λ h. ap found (marked-at h n)) (λ h. ap found (none-at-end i h))
+
+  pub none-found : Open strict s at → stands s at ≡ false → optionsFrom strict s (start s) ≡ []
+  none-found o n = ap (optionsFrom strict s) (sym (o .is)) ∙ none-stand (o .inside) n
+
+  spans-as : (t : Tail) → options (longest strict) s 128 0 at ≡ given t → spans strict s at ≡ spanned strict s at t
+  spans-as t e = ap (λ (x : Answer Tail). onward x (spanned strict s at)) e
+
+  -- What is told of them.
+  pub bare-end : at ≤ length s → length s ≤ at → given (record { count = 0; end = at; payload = at }) ≡ spans strict s at
+  bare-end i h =
+      let t : Tail = record { records = []; marked = false; payload = at } in
+      spanned-well strict s at t (never strict) ∙ sym (spans-as t (none-at-end i h))
+
+  pub bare-alone : at < length s → stands s at ≡ false → both strict (eqb (at + 1) (length s)) ≡ true → refused 9 ≡ spans strict s at
+  bare-alone h n e =
+      let t : Tail = record { records = []; marked = true; payload = at + 1 } in
+      spanned-alone strict s at t e ∙ sym (spans-as t (marked-at h n))
+
+  pub bare-well : at < length s → stands s at ≡ false → both strict (eqb (at + 1) (length s)) ≡ false
+      → given (record { count = 0; end = at; payload = at + 1 }) ≡ spans strict s at
+  bare-well h n e =
+      let t : Tail = record { records = []; marked = true; payload = at + 1 } in
+      spanned-well strict s at t e ∙ sym (spans-as t (marked-at h n))
 
 -- The numbers before the options, of the packet that is read.
 head-is : (s : List ℕ) (t : Tail) → let p = packetOf s (rawAt s) t in headIn s (t .payload) (length (t .records)) ≡ flatHead (p .header) (p .token) (p .payload) (length (t .records))
@@ -234,3 +293,10 @@ module _ (strict : Bool) (s old : List ℕ) where
     scan-puts h mid new a b =
         rw (g .read)
         (puts (g .packet) old mid new (omega (arith, g .count)) (a ∙ ap (sets old 0) (g .head)) (b ∙ ap (λ (rs : List OptionRecord). sets mid 11 (flatRecords rs)) (g .records)))
+
+    -- A message with no options is its head.
+    pub scan-head : optionsFrom strict s (start s) ≡ [] → 11 ≤ length old → (new : List ℕ) → new ≡ sets old 0 (headIn s (m .payload) (m .count))
+        → (given tt ≡ scanned strict (length old) s) × (new ≡ after (scanned strict (length old) s) 0 (flatRead strict s) old)
+    scan-head none h new a =
+        let few : m .count ≡ 0 = g .count ∙ ap length (sym (g .records) ∙ none) in
+        scan-puts (omega arith) new new a (ap (λ (rs : List OptionRecord). sets new 11 (flatRecords rs)) (sym none))

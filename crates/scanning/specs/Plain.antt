@@ -1,17 +1,17 @@
 -- Reading the options of a datagram a second time, where nothing is left to judge.
-use Prim.Native.Nat.{ℕ, _+_, _-_, _*_, _/_, _%_, _<_}
+use Prim.Native.Nat.{ℕ, _+_, _-_, _*_, _/_, _%_, _<_, _≤_}
 use mathlib.Core.Path.{_≡_}
-use mathlib.Core.Bool.{Bool}
+use mathlib.Core.Bool.{Bool, false, not}
 use mathlib.Core.List.{List, [], _∷_}
 use lib.ListN.{length, getD, take}
-use lib.Dec.{ltb, eqb}
+use lib.Dec.{ltb, leb, eqb}
 use Rattle.ground.specs.Choice.{pick, both}
 use Rattle.refusal.specs.Answer.{Answer, given, refused, onward}
 use Rattle.packet.specs.declared.OptionRecord.{OptionRecord}
 use Rattle.option_reading.specs.Option.{Value}
 use Rattle.reading.specs.Options.{Tail, options}
 use Rattle.reading.specs.Reading.{longest}
-use Rattle.scanning.specs.Scanning.{Span, lastEnd}
+use Rattle.scanning.specs.Scanning.{Span, lastEnd, judged}
 use Rattle.scanning.specs.declared.Extension.{Extension}
 
 -- How many bytes of extension a nibble has that is not 15.
@@ -59,7 +59,13 @@ spans strict s at = onward (options (longest strict) s 128 0 at) (spanned strict
 abbrev pub Places : ℕ → List OptionRecord → List ℕ → Type 0
 Places at rs places = (k : ℕ) → k < length rs → getD places k 0 ≡ lastEnd at (take k rs)
 
--- The places are noted of a datagram that is judged good.
-abbrev pub Noted : Bool → List ℕ → Answer Span → List ℕ → Type 0
-Noted strict s (given m) places = Places (start s) (optionsFrom strict s (start s)) places
-Noted strict s (refused k) places = Unit
+-- Whether an option stands at a position: neither the datagram's end nor FF is there.
+unfoldable pub stands : List ℕ → ℕ → Bool
+stands s at = pick (leb (length s) at) false (not (eqb (getD s at 0) 255))
+
+-- The header of a datagram leaves what is said of it to its options, which start at a position.
+pub record Open (strict : Bool) (s : List ℕ) (at : ℕ) : Type 0 where
+  pub is : at ≡ start s
+  pub inside : at ≤ length s
+  pub short : length s ≤ 70000
+  pub rest : judged strict s ≡ spans strict s at

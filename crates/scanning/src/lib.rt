@@ -10,6 +10,7 @@ use reading::opening;
 use refusal::Outcome;
 use refusal::Refusal;
 ghost use mathlib.Core.Path.{_≡_};
+ghost use mathlib.Core.Bool.{Bool};
 ghost use Prim.Native.Nat.{_+_, _*_, _≤_, _<_};
 ghost use lib.ListN.{length};
 ghost use lib.Seq.{sets};
@@ -17,7 +18,7 @@ ghost use Rattle.refusal.specs.Answer.{outcome, after};
 ghost use Rattle.option_reading.specs.Answers.{ByteAt};
 ghost use Rattle.flat.specs.Flat.{flatRecords};
 ghost use Rattle.scanning.specs.Scanning.{extentOf, judged, scanned, flatRead};
-ghost use Rattle.scanning.specs.Plain.{valueOf, extra, plainly, headIn, start, optionsFrom, spans, Places, Noted};
+ghost use Rattle.scanning.specs.Plain.{valueOf, extra, plainly, headIn, start, optionsFrom, spans, Places, stands, Open};
 
 // What a datagram holds: how many options, where they end, and where the payload starts.
 pub enum Extent {
@@ -33,19 +34,48 @@ pub enum Extent {
 pub fn judge(strict: bool, datagram: &[u8]) -> Extent
     ensures { λ r. ⌜ extentOf r ≡ judged strict (now (datagram .entry)) ⌝ }
 {
-    let mut places = [0u32; MAX_OPTIONS];
-    noted(strict, datagram, &mut places)
-}
-
-// The same, and where each option stands.
-fn noted(strict: bool, datagram: &[u8], places: &mut [u32]) -> Extent
-    requires { ⌜ length (now places) ≡ 128 ⌝ }
-    ensures { λ r. ⌜ extentOf r ≡ judged strict (now (datagram .entry)) ⌝ }
-    ensures { λ r. ⌜ Noted strict (now (datagram .entry)) (extentOf r) (now (places .exit)) ⌝ }
-{
     match opening(strict, datagram) {
         RawRead::Refused(e) => Extent::Refused(e),
-        RawRead::Raw(raw) => { walked(strict, datagram, 4 + raw.token_length() as usize, places) }
+        RawRead::Raw(raw) => {
+            let start = 4 + raw.token_length() as usize;
+            if option_at(datagram, start) {
+                let mut places = [0u32; MAX_OPTIONS];
+                return walked(strict, datagram, start, &mut places);
+            }
+            bare(strict, datagram, start)
+        }
+    }
+}
+
+// Whether an option stands at a position, and neither the datagram's end nor the payload marker.
+fn option_at(buf: &[u8], idx: usize) -> bool
+    ensures { λ r. ⌜ r ≡ stands (now (buf .entry)) idx ⌝ }
+{
+    if buf.len() <= idx {
+        return false;
+    }
+    buf[idx] != 255
+}
+
+// A message with no options, whose walk ends where it starts.
+fn bare(strict: bool, buf: &[u8], start: usize) -> Extent
+    requires { ⌜ (start ≤ length (now buf)) × (length (now buf) ≤ 70000) × (stands (now buf) start ≡ Bool.false) ⌝ }
+    ensures { λ r. ⌜ extentOf r ≡ spans strict (now (buf .entry)) start ⌝ }
+{
+    if buf.len() <= start {
+        return Extent::Message {
+            count: 0,
+            end: start,
+            payload: start,
+        };
+    }
+    if marker_alone(strict, true, start + 1, buf.len()) {
+        return Extent::Refused(Refusal::MarkerAlone);
+    }
+    Extent::Message {
+        count: 0,
+        end: start,
+        payload: start + 1,
     }
 }
 
@@ -93,8 +123,26 @@ pub fn scan(strict: bool, datagram: &[u8], out: &mut [u32]) -> Outcome
     ensures { λ r. ⌜ outcome r ≡ scanned strict (length (now (out .entry))) (now (datagram .entry)) ⌝ }
     ensures { λ r. ⌜ now (out .exit) ≡ after (scanned strict (length (now (out .entry))) (now (datagram .entry))) 0 (flatRead strict (now (datagram .entry))) (now (out .entry)) ⌝ }
 {
+    match opening(strict, datagram) {
+        RawRead::Refused(e) => Outcome::Refused(e),
+        RawRead::Raw(raw) => {
+            let start = 4 + raw.token_length() as usize;
+            if option_at(datagram, start) {
+                return scan_options(strict, datagram, start, out);
+            }
+            scan_bare(strict, datagram, start, out)
+        }
+    }
+}
+
+// The same of a datagram whose options start at a position.
+fn scan_options(strict: bool, datagram: &[u8], start: usize, out: &mut [u32]) -> Outcome
+    requires { ⌜ Open strict (now datagram) start ⌝ }
+    ensures { λ r. ⌜ outcome r ≡ scanned strict (length (now (out .entry))) (now (datagram .entry)) ⌝ }
+    ensures { λ r. ⌜ now (out .exit) ≡ after (scanned strict (length (now (out .entry))) (now (datagram .entry))) 0 (flatRead strict (now (datagram .entry))) (now (out .entry)) ⌝ }
+{
     let mut places = [0u32; MAX_OPTIONS];
-    match noted(strict, datagram, &mut places) {
+    match walked(strict, datagram, start, &mut places) {
         Extent::Refused(e) => Outcome::Refused(e),
         Extent::Message {
             count,
@@ -106,6 +154,28 @@ pub fn scan(strict: bool, datagram: &[u8], out: &mut [u32]) -> Outcome
             }
             put_head(out, datagram, payload, count);
             put_options(out, strict, datagram, &places, count);
+            Outcome::Done
+        }
+    }
+}
+
+// The same where there are none: no places are noted, whose array takes longer to clear than all the rest.
+fn scan_bare(strict: bool, datagram: &[u8], start: usize, out: &mut [u32]) -> Outcome
+    requires { ⌜ Open strict (now datagram) start × (stands (now datagram) start ≡ Bool.false) ⌝ }
+    ensures { λ r. ⌜ outcome r ≡ scanned strict (length (now (out .entry))) (now (datagram .entry)) ⌝ }
+    ensures { λ r. ⌜ now (out .exit) ≡ after (scanned strict (length (now (out .entry))) (now (datagram .entry))) 0 (flatRead strict (now (datagram .entry))) (now (out .entry)) ⌝ }
+{
+    match bare(strict, datagram, start) {
+        Extent::Refused(e) => Outcome::Refused(e),
+        Extent::Message {
+            count,
+            end: _,
+            payload,
+        } => {
+            if out.len() < 11 {
+                return Outcome::Refused(Refusal::NoRoom);
+            }
+            put_head(out, datagram, payload, count);
             Outcome::Done
         }
     }

@@ -6,7 +6,7 @@ use mathlib.Core.List.{List, [], _∷_, _++_, map, append-assoc}
 use native.Mathlib.Nat.{zero-add, add-zero}
 use native.Mathlib.Omega.{arith}
 use lib.ListN.{length, take, drop, length-append}
-use lib.Seq.{sets, length-sets, take-append-seam, take-at, drop-append-add}
+use lib.Seq.{sets, length-sets, take-append-seam, take-at, drop-append-seam, drop-append-add}
 use borrow.Author.Tests.{le-ltb}
 use Rattle.ground.proofs.Choice.{on-lt}
 use Rattle.ground.proofs.Part.{put-front, sets-append}
@@ -39,20 +39,28 @@ use Rattle.stream.specs.declared.Judged.the-variants.{Messages as Judged, Refus
 use Rattle.stream.specs.Answers.{Extent, Tally, stepRead, judged as streamJudged}
 use Rattle.stream.specs.Stream.{Frozen, Sized, AllSized, messageOf, streamOf, datagramsOf}
 use Rattle.stream.specs.Messages.{thawed}
+use Rattle.stream.proofs.Complete.{parts}
 use Rattle.stream.proofs.Exact.{exact, stream-append, Only19}
 use Rattle.stream.proofs.Sizes.{message-size}
 use Rattle.thawing.specs.Thawing.{allStrict, strict, thawedStrictly, Counts, countsOf, strictlyIn, Strictly, entries, listed, thawing, Thaws}
 use Rattle.thawing.specs.declared.Strict.{Strict}
 use Rattle.thawing.specs.declared.Strict.the-variants.{Messages, Refused as NoMessages}
+use Rattle.thawing.proofs.Apart.{standing-judged}
 use Rattle.thawing.proofs.Thawed.{Counted, counted, thawed-of, strict-same}
 use Rattle.thawing.proofs.Listing.{entries-length}
 use Rattle.freezing.specs.Freezing.{frozenIn, strictDatagram, freezing, Freezes}
 use Rattle.freezing.proofs.Full.{never-twelve}
 use Rattle.stream_guarantees.specs.StreamOf.{AllAccepted, IsStreamOf}
-use Rattle.stream_guarantees.specs.Streams.{JudgedExactly, OneList, Roomy, Holds, ThawsExactly, Thawing, Appended, Item, AllProper, messageFor, InTurn, FrozenThenThawed, ThawedThenFrozen, RoomOfTheStream, NoStream, PeersAt, MessageSizes, Comes, AllCome, StreamAgain, StreamKept, ToldApart, OneThawing, OneFreezing}
+use Rattle.stream_guarantees.specs.Streams.{JudgedInPlace, JudgedExactly, OneList, Roomy, Holds, ThawsExactly, Thawing, Appended, Item, AllProper, messageFor, InTurn, FrozenThenThawed, ThawedThenFrozen, RoomOfTheStream, NoStream, PeersAt, MessageSizes, Comes, AllCome, StreamAgain, StreamKept, ToldApart, OneThawing, OneFreezing}
 use Rattle.guarantees.specs.Apart.{TellsApart}
 use Rattle.guarantees.proofs.StrictReading.{done}
 use Rattle.guarantees.proofs.Refusals.{output-kept}
+
+pub judged-in-place : JudgedInPlace
+judged-in-place form before after m r z p =
+    let s : List ℕ = before ++ (messageOf form m ++ after) in
+    let k = parts form s (length before) m after (omega (arith, length-append before (messageOf form m ++ after))) (z .peer) (drop-append-seam before (messageOf form m ++ after)) in
+    p ∙ standing-judged form s (length before + 19) (length (m .datagram)) (m .datagram) refl (λ _. record { rest = 3 ∷ after; inside = k .inside; bytes = k .chunks })
 
 -- A list is strict exactly when each datagram is accepted.
 pub all-strict : (l : List Frozen) → AllAccepted l → allStrict l ≡ given tt

@@ -8,8 +8,10 @@ use lib.ListN.{length, take, drop}
 use lib.Seq.{sets}
 use Rattle.ground.specs.Part.{Bytes}
 use Rattle.rfc.specs.Message.{layout}
+use Rattle.refusal.specs.Answer.{given, onward, outcome}
 use Rattle.refusal.specs.declared.Refusal.{Refusal}
 use Rattle.refusal.specs.declared.Refusal.the-variants.{NoRoom, BadFreeze}
+use Rattle.refusal.specs.declared.Outcome.{Outcome}
 use Rattle.refusal.specs.declared.Outcome.the-variants.{Done}
 use Rattle.refusal.specs.declared.Written.{Written}
 use Rattle.refusal.specs.declared.Written.the-variants.{Length, Refused}
@@ -18,11 +20,12 @@ use Rattle.packet.specs.Packet.{Stores, stores}
 use Rattle.packet.specs.Meaning.{meaning}
 use Rattle.packet.specs.Shape.{Shaped}
 use Rattle.packet.specs.declared.Packet.{Packet}
-use Rattle.reading.specs.Reading.{FromBytes}
+use Rattle.reading.specs.Reading.{FromBytes, reading}
 use Rattle.reading.specs.declared.Decoded.{Decoded}
 use Rattle.stream.specs.declared.Form.{Form}
 use Rattle.stream.specs.Answers.{stepRead, judged as streamJudged}
-use Rattle.stream.specs.Stream.{Frozen, AllSized, messageOf, streamOf, datagramsOf, messageSize}
+use Rattle.stream.specs.Stream.{Frozen, Sized, AllSized, messageOf, streamOf, datagramsOf, messageSize}
+use Rattle.chunk_judging.specs.Chunks.{JudgesChunks}
 use Rattle.writing.specs.Writing.{Held}
 use Rattle.thawing.specs.Thawing.{strictlyIn, Strictly, entries, Thaws}
 use Rattle.thawing.specs.declared.Strict.{Strict}
@@ -43,6 +46,13 @@ abbrev pub NoStream : Type 0
 NoStream =
     (form other : Form) (s : List ℕ) (r : Strict) → Strictly form other s r → ((l : List Frozen) → AllSized l → s ≡ streamOf form l → ⊥)
     → r ≡ NotRead BadFreeze
+
+-- Wherever a message stands, its datagram is judged in its chunks, which start behind kind and peer, as strict reading judges it.
+abbrev pub JudgedInPlace : Type 0
+JudgedInPlace =
+    (form : Form) (before after : List ℕ) (m : Frozen) (r : Outcome) → Sized m
+    → JudgesChunks form (before ++ (messageOf form m ++ after)) (length before + 19) (length (m .datagram)) r
+    → outcome r ≡ onward (reading true (m .datagram)) (λ p. given tt)
 
 -- There is only one such list.
 abbrev pub OneList : Type 0

@@ -12,6 +12,7 @@ use reports::put_refused;
 use reread::Input;
 use stream::Form;
 use walks::Walk;
+use words::part;
 
 fn main() {
     let mut window = [0u8; 65536];
@@ -28,7 +29,11 @@ fn thaw_over(window: &mut [u8; 65536], out: &mut [u8; 65536]) {
 
 // Judges the stream, and shows it where it is one.
 fn thaw(input: Input, window: &mut [u8], out: &mut [u8]) {
-    let form = form_of(input, window);
+    let front = reread::front(input, window);
+    if front.failed {
+        return;
+    }
+    let form = form_of(part(window, 0, front.count));
     let judged = pass(input, form, Work::Judge, window, out);
     let outcome = judged.outcome;
     match outcome {

@@ -3,7 +3,7 @@ use Prim.Native.Nat.{ℕ, _+_, _-_, _<_, _≤_, min}
 use mathlib.Core.Path.{_≡_, sym, ap, subst, _∙_}
 use mathlib.Core.List.{List, _∷_, _++_, append-assoc}
 use native.Mathlib.Omega.{arith}
-use lib.ListN.{length, take, drop, length-drop, take-append-drop, drop-of-length-le}
+use lib.ListN.{length, take, drop, length-take, length-drop, take-append-drop, drop-of-length-le}
 use Rattle.ground.specs.Part.{part}
 use Rattle.refusal.specs.Answer.{Answer, given, refused}
 use Rattle.refusal.proofs.Answers.{Given}
@@ -27,6 +27,16 @@ standing-by : (form : Form) (s : List ℕ) (from : ℕ) (a : Answer Body) → Gi
 standing-by form s from (given b) h l = record { rest = 3 ∷ drop (b .next) s; inside = omega (arith, h .room, h .inside); bytes = h .bytes }
 standing-by form s from (refused k) h l = absurd (omega arith)
 
+-- The first of them.
+pub standing-chunk : (form : Form) (s : List ℕ) (at : ℕ) (x : List ℕ) (w : Standing form s at x) → 1 ≤ length x
+    → Chunked form s at (take (full form) x) (chunksOf form (chunkCount form (length (drop (full form) x))) (drop (full form) x) ++ w .rest)
+standing-chunk form s at x w some =
+    let c : List ℕ = take (full form) x in
+    let r : List ℕ = chunksOf form (chunkCount form (length (drop (full form) x))) (drop (full form) x) in
+    let k : length c ≡ min (full form) (length x) = length-take (full form) x in
+    chunk-complete form s at c (r ++ w .rest) (omega (arith, full-some form)) (omega arith) (w .inside)
+    (w .bytes ∙ (ap (λ (l : List ℕ). l ++ w .rest) (chunks-first form x some) ∙ append-assoc (chunkOf form c) r (w .rest)))
+
 -- Before a chunk: once the bytes that are left are put, all are; and their chunks stand in the stream.
 pub record CopyWalk (form : Form) (s d old : List ℕ) (to : ℕ) (new : List ℕ) (at done next : ℕ) : Type 0 where
   pub put : Putting old to d new next (drop done d)
@@ -48,15 +58,7 @@ module _ (form : Form) (s d old : List ℕ) (to : ℕ) (new : List ℕ) (at done
 
   module _ (n : ℕ) (h : done < length d) (least : n ≡ min (full form) (length d - done)) where
     pub copy-chunk : Chunked form s at (take (full form) (drop done d)) (chunksOf form (chunkCount form (length (drop (full form) (drop done d)))) (drop (full form) (drop done d)) ++ w .stands h .rest)
-    copy-chunk =
-        let x : List ℕ = drop done d in
-        let c : List ℕ = take (full form) x in
-        let r : List ℕ = chunksOf form (chunkCount form (length (drop (full form) x))) (drop (full form) x) in
-        let k : length c ≡ n = next-length form d done n least in
-        let some : 1 ≤ n = omega (arith, full-some form) in
-        let xs : 1 ≤ length x = rw length-drop (omega arith) in
-        chunk-complete form s at c (r ++ w .stands h .rest) (omega arith) (omega arith) (w .stands h .inside)
-        (w .stands h .bytes ∙ (ap (λ (l : List ℕ). l ++ w .stands h .rest) (chunks-first form x xs) ∙ append-assoc (chunkOf form c) r (w .stands h .rest)))
+    copy-chunk = standing-chunk form s at (drop done d) (w .stands h) (rw length-drop (omega arith))
 
     pub copy-part : part s (at + headSize form) n ≡ take (full form) (drop done d)
     copy-part = ap (part s (at + headSize form)) (sym (next-length form d done n least)) ∙ copy-chunk .bytes

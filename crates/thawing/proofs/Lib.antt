@@ -1,4 +1,5 @@
 pub mod Copy
+pub mod Apart
 pub mod Message
 pub mod Accepting
 pub mod Judging

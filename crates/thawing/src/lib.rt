@@ -1,8 +1,8 @@
 // Messages out of a freeze stream: one after the other, or all of them with a list. A datagram's chunks lie apart in the stream, so
 // it is copied to a lent output.
-use packet::limits::FULL_SIZE;
+use chunk_judging::judge_chunks;
+use cursor::judge;
 use placing::put_bytes;
-use reading::from_bytes_strict;
 use refusal::Outcome;
 use refusal::Refusal;
 use refusal::Written;
@@ -126,9 +126,7 @@ pub fn strict_at(form: Form, stream: &[u8], at: usize) -> Step
 fn strict_before(datagram: &[u8], next: usize) -> Step
     ensures { λ r. ⌜ stepRead r ≡ strictBefore (now (datagram .entry)) next ⌝ }
 {
-    let read = from_bytes_strict(datagram);
-    let outcome = read.outcome;
-    match outcome {
+    match judge(true, datagram) {
         Outcome::Refused(e) => Step::Refused(e),
         Outcome::Done => Step::Message {
             len: datagram.len(),
@@ -137,14 +135,15 @@ fn strict_before(datagram: &[u8], next: usize) -> Step
     }
 }
 
-// A datagram of several chunks, which lie apart: it is copied together to be judged.
+// A datagram of several chunks, which lie apart, judged where they lie.
 fn strict_apart(form: Form, stream: &[u8], from: usize, len: usize, next: usize) -> Step
     requires { ⌜ (len ≡ length (bodyBytes (bodyAt form (now stream) (length (now stream)) (full form) from))) × (len ≤ fullSize) ⌝ }
     ensures { λ r. ⌜ stepRead r ≡ strictBefore (bodyBytes (bodyAt form (now (stream .entry)) (length (now (stream .entry))) (full form) from)) next ⌝ }
 {
-    let mut datagram = [0u8; FULL_SIZE];
-    let end = copy_chunks(form, stream, from, len, &mut datagram, 0);
-    strict_before(&datagram[..end], next)
+    match judge_chunks(form, stream, from, len) {
+        Outcome::Refused(why) => Step::Refused(why),
+        Outcome::Done => Step::Message { len, next },
+    }
 }
 
 // Lists the messages of a stream that was judged, and copies their datagrams.

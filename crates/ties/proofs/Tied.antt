@@ -21,7 +21,9 @@ use Rattle.block_value.specs.Strict.{strictNew, strictWriting, ReadsStrict}
 use Rattle.packet.specs.Packet.{none, stores, rangeOf, recordsOf, ofNumber}
 use Rattle.judging.specs.Judge.{lengthsOf}
 use Rattle.reading.specs.Reading.{FromBytes}
+use Rattle.cursor.specs.Cursor.{Starts, StepsTo, Judges as JudgesDatagram}
 use Rattle.writing.specs.Writing.{ToBytes}
+use Rattle.building.specs.Building.{Starts as BuildStarts, Adds, Ends}
 use Rattle.splicing.specs.Edited.{Edits}
 use Rattle.splicing.specs.Splice.{homed}
 use Rattle.editing.specs.Edit.{tokenSet, payloadSet, added, optionSet, cleared, clearedAll}
@@ -31,6 +33,7 @@ use Rattle.register.specs.Check.{Checks}
 use Rattle.framing.specs.Framing.{ToFrame, FromFrame}
 use Rattle.plan_checking.specs.Plan.{Checks as ChecksPlan}
 use Rattle.planning.specs.Planner.{Plans}
+use Rattle.chunk_judging.specs.Chunks.{JudgesChunks}
 use Rattle.thawing.specs.Message.{NextMessage}
 use Rattle.thawing.specs.Thawing.{Strictly, Thaws}
 use Rattle.freezing.specs.Freezing.{Freezes}
@@ -54,12 +57,18 @@ use Rattle.packet.proofs.Packet.get_option.Reads as GetOption
 use Rattle.packet.proofs.Packet.get_first_option.Reads as GetFirst
 use Rattle.reading.proofs.from_bytes.Reads as FromPlain
 use Rattle.reading.proofs.from_bytes_strict.Reads as FromStrict
+use Rattle.cursor.proofs.Cursor.start.Reads as StartCursor
+use Rattle.cursor.proofs.Cursor.step.Reads as StepCursor
+use Rattle.cursor.proofs.judge.Reads as JudgeDatagram
 use Rattle.writing.proofs.to_bytes.Reads as ToPlain
 use Rattle.writing.proofs.to_bytes_with_limit.Reads as ToPlainLimit
 use Rattle.writing.proofs.to_bytes_unlimited.Reads as ToPlainUnlimited
 use Rattle.writing.proofs.to_bytes_strict.Reads as ToStrict
 use Rattle.writing.proofs.to_bytes_with_limit_strict.Reads as ToStrictLimit
 use Rattle.writing.proofs.to_bytes_unlimited_strict.Reads as ToStrictUnlimited
+use Rattle.building.proofs.Builder.start.Reads as StartBuild
+use Rattle.building.proofs.Builder.option.Reads as BuildOption
+use Rattle.building.proofs.Builder.payload.Reads as BuildPayload
 use Rattle.editing.proofs.set_token.Reads as SetToken
 use Rattle.editing.proofs.set_payload.Reads as SetPayload
 use Rattle.editing.proofs.add_option.Reads as AddOption
@@ -84,6 +93,7 @@ use Rattle.target_writing.proofs.write_target.Reads as WriteTarget
 use Rattle.target_reading.proofs.read_target.Reads as ReadTarget
 use Rattle.plan_checking.proofs.check.Reads as CheckPlan
 use Rattle.planning.proofs.plan.Reads as MakePlan
+use Rattle.chunk_judging.proofs.judge_chunks.Reads as JudgeInChunks
 use Rattle.thawing.proofs.next_message.Reads as TakeMessage
 use Rattle.thawing.proofs.judge_strictly.Reads as JudgeStream
 use Rattle.thawing.proofs.thaw.Reads as ThawStream
@@ -146,6 +156,16 @@ from-bytes k a r x h = h
 from-bytes-strict : (k : _) (a : _) (r : _) (x : _) → FromStrict.Post k a r x → FromBytes true (now (a .0)) r
 from-bytes-strict k a r x h = h
 
+-- Reading step by step.
+start-cursor : (k : _) (a : _) (r : _) (x : _) → StartCursor.Post k a r x → Starts (a .0) (now (a .1 .0)) r
+start-cursor k a r x h = h
+
+step-cursor : (k : _) (a : _) (r : _) (x : _) → StepCursor.Post k a r x → StepsTo (now (a .1 .0)) (a .0) r
+step-cursor k a r x h = h
+
+judge-datagram : (k : _) (a : _) (r : _) (x : _) → JudgeDatagram.Post k a r x → JudgesDatagram (a .0) (now (a .1 .0)) r
+judge-datagram k a r x h = h
+
 -- Writing, at each limit, plain and strict.
 to-bytes : (k : _) (a : _) (r : _) (x : _) → ToPlain.Post k a r x → ToBytes false Default (a .0) (stores (now (a .1 .0)) (now (a .1 .1 .0))) (now (a .1 .1 .1 .0)) r (now (x .1 .1 .1 .0))
 to-bytes k a r x h = h
@@ -164,6 +184,16 @@ to-bytes-with-limit-strict k a r x h = h
 
 to-bytes-unlimited-strict : (k : _) (a : _) (r : _) (x : _) → ToStrictUnlimited.Post k a r x → ToBytes true Unlimited (a .0) (stores (now (a .1 .0)) (now (a .1 .1 .0))) (now (a .1 .1 .1 .0)) r (now (x .1 .1 .1 .0))
 to-bytes-unlimited-strict k a r x h = h
+
+-- Building, call by call.
+build-start : (k : _) (a : _) (r : _) (x : _) → StartBuild.Post k a r x → BuildStarts (a .0) (a .1 .0) (now (a .1 .1 .0)) (now (a .1 .1 .1 .0)) r (now (x .1 .1 .1 .0))
+build-start k a r x h = h
+
+build-option : (k : _) (a : _) (r : _) (x : _) → BuildOption.Post k a r x → Adds (a .0) (record { number = a .1 .0; value = now (a .1 .1 .0) }) (now (a .1 .1 .1 .0)) r (now (x .1 .1 .1 .0))
+build-option k a r x h = h
+
+build-payload : (k : _) (a : _) (r : _) (x : _) → BuildPayload.Post k a r x → Ends (a .0) (now (a .1 .0)) (now (a .1 .1 .0)) r (now (x .1 .1 .0))
+build-payload k a r x h = h
 
 -- Edits.
 set-token : (k : _) (a : _) (r : _) (x : _) → SetToken.Post k a r x → Edits (a .0) (tokenSet (a .0) (record { home = a .1 .0; start = a .1 .1 .0; len = a .1 .1 .1 .0 })) r
@@ -276,6 +306,9 @@ plan : (k : _) (a : _) (r : _) (x : _) → MakePlan.Post k a r x → Plans (a .0
 plan k a r x h = h
 
 -- Freeze streams.
+judge-chunks : (k : _) (a : _) (r : _) (x : _) → JudgeInChunks.Post k a r x → JudgesChunks (a .0) (now (a .1 .0)) (a .1 .1 .0) (a .1 .1 .1 .0) r
+judge-chunks k a r x h = h
+
 next-message : (k : _) (a : _) (r : _) (x : _) → TakeMessage.Post k a r x → NextMessage (a .0) (now (a .1 .0)) (a .1 .1 .0) (now (a .1 .1 .1 .0)) (a .1 .1 .1 .1 .0) r (now (x .1 .1 .1 .0))
 next-message k a r x h = h
 

@@ -6,7 +6,7 @@ use mathlib.Core.List.{List, [], _∷_, _++_}
 use native.Mathlib.Omega.{arith}
 use lib.ListN.{length, take, drop, getD, replicate, length-take, take-append-drop}
 use lib.Dec.{ltb}
-use lib.Seq.{take-suc, take-length, take-at, take-add, drop-cons, drop-drop, getD-append-add}
+use lib.Seq.{take-suc, take-length, take-add, drop-cons, drop-drop, getD-append-add}
 use borrow.Author.Tests.{le-ltb}
 use Rattle.ground.proofs.Choice.{on, on-eq, neither, none-of}
 use Rattle.refusal.specs.Answer.{Answer, given}
@@ -24,8 +24,8 @@ use Rattle.packet.specs.declared.Home.the-variants.{Datagram, Edits}
 use Rattle.flat.specs.Flat.{numberOfHome, flatHead, flatRecords, flat}
 use Rattle.flat.proofs.Flat.{flat-length}
 use Rattle.unflat.specs.Made.{Spared, Made}
-use Rattle.unflat.specs.Unflat.{badHead, badRecord, badNumbers, badFlat, headerIn, homeOf, recordAt, recordsIn, packetIn, unflat}
-use Rattle.unflat.proofs.Unflat.{good, small, records-length, home-small as record-home}
+use Rattle.unflat.specs.Unflat.{badHead, badRecord, badNumbers, badFrame, badFlat, headerIn, homeOf, recordAt, recordsIn, packetIn, unflat}
+use Rattle.unflat.proofs.Unflat.{good, small, records-length, records-taken, home-small as record-home}
 
 -- A home comes back from its number, and a number that is a home's from its home.
 home-back : (h : Home) → homeOf (numberOfHome h) ≡ h
@@ -120,7 +120,7 @@ module _ (p : Packet) (shaped : Shaped p) (made : Made p) where
   good-numbers (suc m) = none-of (badNumbers (flat p) m) (badRecord (flat p) (11 + 4 * m)) (good-numbers m) (good-record m)
 
   good-flat : badFlat (flat p) ≡ false
-  unfolding badFlat
+  unfolding badFlat badFrame
   good-flat =
       rw (le-ltb (length (flat p)) 11 (omega (arith, flat-length p)), good-head, count-back, le-ltb (length (flat p)) (11 + 4 * length (recordsOf p)) (omega (arith, flat-length p)))
       (good-numbers (length (recordsOf p)))
@@ -182,10 +182,6 @@ records-flat l (suc m) h e =
     ∙ rw (more, take-add (4 * m) 4 (drop 11 l), drop-drop (4 * m) 11 l, part-row l (11 + 4 * m) 4 (omega arith), records-flat l m (omega arith) (parts .0), home, one, two, three)
 
 module _ (l : List ℕ) (bad : badFlat l ≡ false) where
-  records-taken : recordsOf (packetIn l) ≡ recordsIn l (getD l 10 0)
-  unfolding packetIn
-  records-taken = take-at (recordsIn l (getD l 10 0)) (replicate (128 - getD l 10 0) none) (getD l 10 0) (records-length l (getD l 10 0))
-
   head-taken : flatHead (packetIn l .header) (packetIn l .token) (packetIn l .payload) (getD l 10 0) ≡ take 11 l
   unfolding packetIn headerIn row
   head-taken =
@@ -199,7 +195,7 @@ module _ (l : List ℕ) (bad : badFlat l ≡ false) where
   flat-packet =
       let q = packetIn l in
       let n = getD l 10 0 in
-      ap (λ (rs : List OptionRecord). flatHead (q .header) (q .token) (q .payload) (length rs) ++ flatRecords rs) records-taken
+      ap (λ (rs : List OptionRecord). flatHead (q .header) (q .token) (q .payload) (length rs) ++ flatRecords rs) (records-taken l)
       ∙ (ap (λ (k : ℕ). flatHead (q .header) (q .token) (q .payload) k ++ flatRecords (recordsIn l n)) (records-length l n)
       ∙ (ap (λ (h : List ℕ). h ++ flatRecords (recordsIn l n)) head-taken
       ∙ (ap (λ (t : List ℕ). take 11 l ++ t) (records-flat l n (good l bad .records) (good l bad .numbers)) ∙ sym (take-add 11 (4 * n) l))))

@@ -10,7 +10,7 @@ use Rattle.ground.proofs.Choice.{on}
 use Rattle.refusal.specs.Answer.{Answer, given}
 use Rattle.refusal.proofs.Answers.{not-refused}
 use Rattle.packet.specs.declared.Packet.{Packet}
-use Rattle.unflat.specs.Unflat.{badHead, badRecord, badNumbers, badFlat, headerIn, recordsIn, packetIn, unflat}
+use Rattle.unflat.specs.Unflat.{badHead, badRecord, badNumbers, badFrame, badFlat, headerIn, recordsIn, packetIn, unflat}
 use Rattle.unflat.proofs.Unflat.{good}
 
 module _ (l rest : List ℕ) (bad : badFlat l ≡ false) where
@@ -40,7 +40,7 @@ module _ (l rest : List ℕ) (bad : badFlat l ≡ false) where
       rw (same-records m (omega arith), same (11 + 4 * m) (omega arith), same (11 + 4 * m + 1) (omega arith), same (11 + 4 * m + 2) (omega arith), same (11 + 4 * m + 3) (omega arith))
 
   longer-good : badFlat (l ++ rest) ≡ false
-  unfolding badFlat
+  unfolding badFlat badFrame
   longer-good =
       let g = good l bad in
       let long = length-append l rest in

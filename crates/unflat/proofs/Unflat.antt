@@ -6,14 +6,14 @@ use mathlib.Core.List.{List, [], _∷_, _++_, append-assoc}
 use native.Mathlib.Numerals.{add-one}
 use native.Mathlib.Omega.{arith}
 use lib.ListN.{length, getD, set, replicate, length-append}
-use lib.Seq.{set-at}
+use lib.Seq.{set-at, take-at}
 use lib.Dec.{ltb}
 use borrow.Author.Tests.{ltb-false}
 use Rattle.ground.proofs.Choice.{by-eq, neither, none-of, either-right}
-use Rattle.packet.specs.Packet.{none}
+use Rattle.packet.specs.Packet.{none, recordsOf}
 use Rattle.packet.specs.declared.OptionRecord.{OptionRecord}
 use Rattle.packet.specs.declared.Packet.{Packet}
-use Rattle.unflat.specs.Unflat.{badHead, badRecord, badNumbers, badFlat, headerIn, rangeAt, recordAt, recordsIn}
+use Rattle.unflat.specs.Unflat.{badHead, badRecord, badNumbers, badFrame, badFlat, headerIn, rangeAt, recordAt, recordsIn, packetIn}
 
 -- One bad record makes all bad.
 pub bad-by : (l : List ℕ) (n i : ℕ) → i < n → badRecord l (11 + 4 * i) ≡ true → badNumbers l n ≡ true
@@ -73,6 +73,23 @@ small l e =
       count = ltb-false 128 (getD l 10 0) (g .1);
     }
 
+-- A flat form as far as its head: its length and its fields.
+pub record Framed (l : List ℕ) : Type 0 where
+  pub head : 11 ≤ length l
+  pub fields : badHead l ≡ false
+  pub records : 11 + 4 * getD l 10 0 ≤ length l
+
+pub framed : (l : List ℕ) → badFrame l ≡ false → Framed l
+unfolding badFrame
+framed l e =
+    let a = neither (ltb (length l) 11) _ e in
+    let b = neither (badHead l) (ltb (length l) (11 + 4 * getD l 10 0)) (a .1) in
+    record {
+      head = ltb-false (length l) 11 (a .0);
+      fields = b .0;
+      records = ltb-false (length l) (11 + 4 * getD l 10 0) (b .1);
+    }
+
 -- A flat form: its length, its head and its records.
 pub record Good (l : List ℕ) : Type 0 where
   pub head : 11 ≤ length l
@@ -83,19 +100,18 @@ pub record Good (l : List ℕ) : Type 0 where
 pub good : (l : List ℕ) → badFlat l ≡ false → Good l
 unfolding badFlat
 good l e =
-    let a = neither (ltb (length l) 11) _ e in
-    let b = neither (badHead l) _ (a .1) in
-    let c = neither (ltb (length l) (11 + 4 * getD l 10 0)) (badNumbers l (getD l 10 0)) (b .1) in
-    record {
-      head = ltb-false (length l) 11 (a .0);
-      fields = b .0;
-      records = ltb-false (length l) (11 + 4 * getD l 10 0) (c .0);
-      numbers = c .1;
-    }
+    let both = neither (badFrame l) (badNumbers l (getD l 10 0)) e in
+    let f = framed l (both .0) in
+    record { head = f .head; fields = f .fields; records = f .records; numbers = both .1 }
 
 pub records-length : (l : List ℕ) (n : ℕ) → length (recordsIn l n) ≡ n
 records-length l zero = refl
 records-length l (suc n) = simp length-append (omega (arith, records-length l n))
+
+-- The records in use are those of the numbers.
+pub records-taken : (l : List ℕ) → recordsOf (packetIn l) ≡ recordsIn l (getD l 10 0)
+unfolding packetIn
+records-taken l = take-at (recordsIn l (getD l 10 0)) (replicate (128 - getD l 10 0) none) (getD l 10 0) (records-length l (getD l 10 0))
 
 -- One more record in the array.
 filled : (l : List ℕ) (records : List OptionRecord) (i : ℕ) → i < 128 → records ≡ recordsIn l i ++ replicate (128 - i) none

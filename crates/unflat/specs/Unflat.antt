@@ -37,11 +37,13 @@ abbrev pub badNumbers : List ℕ → ℕ → Bool
 badNumbers l zero = false
 badNumbers l (suc n) = either (badNumbers l n) (badRecord l (11 + 4 * n))
 
--- Numbers that are no packet's flat form: fewer than the 11 of the head, or than 11 + 4·count, or one that its field does not hold.
+-- Fewer numbers than the 11 of the head, or than 11 + 4·count, or a bad head.
+unfoldable pub badFrame : List ℕ → Bool
+badFrame l = either (ltb (length l) 11) (either (badHead l) (ltb (length l) (11 + 4 * getD l 10 0)))
+
+-- Numbers that are no packet's flat form: too few, or one that its field does not hold.
 unfoldable pub badFlat : List ℕ → Bool
-badFlat l =
-    either (ltb (length l) 11)
-    (either (badHead l) (either (ltb (length l) (11 + 4 * getD l 10 0)) (badNumbers l (getD l 10 0))))
+badFlat l = either (badFrame l) (badNumbers l (getD l 10 0))
 
 -- The header of a flat form.
 unfoldable pub headerIn : List ℕ → Header

@@ -15,7 +15,7 @@ ghost use Prim.Native.Nat.{_+_, _*_, _≤_};
 ghost use lib.ListN.{length};
 ghost use Rattle.refusal.specs.Answer.{beside};
 ghost use Rattle.packet.specs.Packet.{newPacket};
-ghost use Rattle.unflat.specs.Unflat.{badHead, badRecord, badNumbers, badFlat, headerIn, homeOf, rangeAt, recordAt, packetIn, unflat, taken};
+ghost use Rattle.unflat.specs.Unflat.{badHead, badRecord, badNumbers, badFrame, badFlat, headerIn, homeOf, rangeAt, recordAt, packetIn, unflat, taken};
 
 // What taking a packet out of numbers answers. Beside a refusal stands the new packet.
 pub struct Taken {
@@ -43,17 +43,23 @@ pub fn packet_in(numbers: &[u32]) -> Taken
 fn bad_flat(numbers: &[u32]) -> bool
     ensures { λ r. ⌜ r ≡ badFlat (now (numbers .entry)) ⌝ }
 {
+    if bad_frame(numbers) {
+        return true;
+    }
+    bad_numbers(numbers, numbers[10] as usize)
+}
+
+// Whether numbers are too few for a flat form, or its head is bad: the records are not looked at.
+pub fn bad_frame(numbers: &[u32]) -> bool
+    ensures { λ r. ⌜ r ≡ badFrame (now (numbers .entry)) ⌝ }
+{
     if numbers.len() < 11 {
         return true;
     }
     if bad_head(numbers) {
         return true;
     }
-    let count = numbers[10] as usize;
-    if numbers.len() < 11 + 4 * count {
-        return true;
-    }
-    bad_numbers(numbers, count)
+    numbers.len() < 11 + 4 * numbers[10] as usize
 }
 
 // Whether one of the first numbers is more than its field holds, or no home's.

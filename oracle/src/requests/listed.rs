@@ -56,7 +56,8 @@ fn listed(list: &str, put: &mut dyn FnMut(String)) {
     }
 }
 
-/// A line in which `{61*9}` stands for nine times `61`, `{#:-,*3}` for `1:-,2:-,3:-,` and `{%ff*3}` for `01ff02ff03ff`.
+/// A line in which `{61*9}` stands for nine times `61`, `{#:-,*3}` for `1:-,2:-,3:-,`, `{%ff*3}` for `01ff02ff03ff` and
+/// `{#@&+0,*2}` for `1@5+0,2@6+0,`.
 fn spelled(line: &str) -> String {
     let mut spelled = String::new();
     for (at, part) in line.split(['{', '}']).enumerate() {
@@ -64,7 +65,9 @@ fn spelled(line: &str) -> String {
             Some((text, times)) if at % 2 == 1 => {
                 let times: usize = times.parse().expect("a number of times");
                 for time in 1..=times {
-                    spelled.push_str(&text.replace('#', &time.to_string()).replace('%', &format!("{time:02x}")));
+                    let (count, digits, behind_header) =
+                        (time.to_string(), format!("{time:02x}"), (time + 4).to_string());
+                    spelled.push_str(&text.replace('#', &count).replace('%', &digits).replace('&', &behind_header));
                 }
             }
             _ => spelled.push_str(part),

@@ -1,6 +1,6 @@
 //! Every short input of every kind.
 
-use super::{frozen, planned, ranged, traced, typed};
+use super::{frozen, planned, ranged, stepped, traced, typed};
 use crate::register::lengths;
 use crate::words::{class_word, hex, named_classes};
 use coap_lite::MessageClass;
@@ -32,6 +32,7 @@ pub fn strict(put: &mut dyn FnMut(String)) {
     registers(put);
     planned::small(put);
     frames(put);
+    stepped::small(put);
     ranged::small(put);
     frozen::small(put);
     traced::small(put);

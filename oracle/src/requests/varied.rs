@@ -32,7 +32,7 @@ impl Varied {
         if self.made % LONG_EVERY == 0 && self.made / LONG_EVERY <= LONG_MOST {
             return self.long();
         }
-        match self.random.below(100) {
+        match self.random.below(108) {
             0..=32 => self.read(),
             33..=58 => self.write(),
             59..=78 => self.edit(),
@@ -41,15 +41,19 @@ impl Varied {
             89..=92 => self.code(),
             93..=97 => self.block(),
             98 => self.header(),
-            _ => self.no_request(),
+            99 => self.no_request(),
+            100..=103 => self.steps(),
+            _ => self.build(),
         }
     }
 
     fn long(&mut self) -> String {
-        match self.random.below(4) {
+        match self.random.below(6) {
             0 => self.long_value_read(),
             1 => self.long_payload_read(),
             2 => self.long_write(),
+            3 => self.long_steps(),
+            4 => self.long_build(),
             _ => self.long_edit(),
         }
     }
@@ -60,7 +64,7 @@ impl Varied {
         if self.made % LONG == 1 && self.made / LONG < LONG_MOST {
             return self.long_strict();
         }
-        match self.random.below(58) {
+        match self.random.below(63) {
             0..=4 => {
                 let parts = self.registered();
                 format!("register {}", self.homed(&parts))
@@ -79,6 +83,8 @@ impl Varied {
             41..=47 => self.target(),
             48..=51 => self.replay(),
             52 | 53 => self.hear(),
+            54 | 55 => self.steps(),
+            56..=58 => self.build(),
             _ => self.block_strict(),
         }
     }
@@ -94,7 +100,7 @@ impl Varied {
         self.parts_of(options)
     }
 
-    fn parts_of(&mut self, options: usize) -> Parts {
+    pub fn parts_of(&mut self, options: usize) -> Parts {
         let version = if self.random.one_in(8) { self.random.below(4) as u8 } else { 1 };
         let token = match self.random.below(12) {
             0 => self.random.near(&[8]),
@@ -175,7 +181,7 @@ impl Varied {
 
     // ---- reading
 
-    fn read(&mut self) -> String {
+    pub fn read(&mut self) -> String {
         loop {
             let datagram = match self.random.below(20) {
                 0 if self.random.one_in(3) => return self.crowded_read(),
@@ -191,7 +197,7 @@ impl Varied {
     }
 
     /// As many options as a packet holds, and then what can't become one more.
-    fn crowded_read(&mut self) -> String {
+    pub fn crowded_read(&mut self) -> String {
         const TAILS: [&str; 12] = ["", "ff", "ff61", "0f", "1f", "f0", "d0", "e0fe", "01", "0d", "0d00", "effef3"];
         let mut parts = self.parts_of(MOST_OPTIONS);
         parts.token.truncate(8);
@@ -200,7 +206,7 @@ impl Varied {
         format!("read {}{}", hex(&datagram), self.random.of(&TAILS))
     }
 
-    fn full_read(&mut self) -> String {
+    pub fn full_read(&mut self) -> String {
         format!("read {}", hex(&self.full_datagram()))
     }
 
@@ -213,7 +219,7 @@ impl Varied {
     }
 
     /// Any option after one whose number is beside the largest.
-    fn last_number_read(&mut self) -> String {
+    pub fn last_number_read(&mut self) -> String {
         let mut parts = self.parts();
         parts.token.truncate(8);
         parts.payload.clear();
@@ -482,9 +488,11 @@ impl Varied {
 
     /// A request that a small fault makes none.
     fn no_request(&mut self) -> String {
-        let line = match self.random.below(3) {
+        let line = match self.random.below(5) {
             0 => format!("read {}", hex(&self.datagram())),
             1 => self.write(),
+            2 => self.steps(),
+            3 => self.build(),
             _ => self.block(),
         };
         match self.random.below(6) {
@@ -499,7 +507,7 @@ impl Varied {
 
     // ---- long requests
 
-    fn long_value_read(&mut self) -> String {
+    pub fn long_value_read(&mut self) -> String {
         let mut bytes = vec![0x40, 0x01, 0x00, 0x01, self.random.of(&[0x0e, 0x1e, 0xde])];
         if bytes[4] == 0xde {
             bytes.push(self.random.byte());
@@ -511,7 +519,7 @@ impl Varied {
         format!("read {}", hex(&bytes))
     }
 
-    fn long_payload_read(&mut self) -> String {
+    pub fn long_payload_read(&mut self) -> String {
         let mut parts = self.parts();
         parts.token.truncate(8);
         parts.class = MessageClass::from(self.random.byte());

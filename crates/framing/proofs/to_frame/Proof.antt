@@ -9,8 +9,8 @@ use borrow.Author.Needs.{needs}
 use Rattle.framing.proofs.to_frame.Statement.{statement}
 use Rattle.framing.proofs.to_frame.Tie as tie
 
-read-strictly-requires : tie.Need-read-strictly-requires
-read-strictly-requires c κs = search needs
+judge-requires : tie.Need-judge-requires
+judge-requires c κs = search needs
 
 enum-known-e : tie.Need-enum-known-e
 enum-known-e c = search needs
@@ -21,10 +21,10 @@ enum-told c = search needs
 put-frame-requires : tie.Need-put-frame-requires
 put-frame-requires c κs =
     let s = now (c .before .before .before .before .before .before .args .datagram) in
-    accepted-whole s (bytes-of s (λ i. omega (arith, c .before .before .before .before .before .shared-slice-known .given i))) (sym (c .before .before .before .read-strictly .ensures) ∙ ap outcome (c .before .enum-told .given .1))
+    accepted-whole s (bytes-of s (λ i. omega (arith, c .before .before .before .before .before .shared-slice-known .given i))) (sym (c .before .before .before .judge .ensures) ∙ ap outcome (c .before .enum-told .given .1))
 
 returns : tie.Need-returns
-returns c = not-converted _ _ _ (framed-refused _ _ (sym (c .before .before .before .read-strictly .ensures) ∙ ap outcome (c .before .e .given .1)))
+returns c = not-converted _ _ _ (framed-refused _ _ (sym (c .before .before .before .judge .ensures) ∙ ap outcome (c .before .e .given .1)))
 
 same-length : tie.Need-same-length
 same-length c = search needs
@@ -32,13 +32,13 @@ same-length c = search needs
 returns-2 : tie.Need-returns-2
 returns-2 c =
     let s = now (c .before .before .before .before .before .before .before .before .before .args .datagram) in
-    rw (framed-is s (bytes-of s (λ i. omega (arith, c .before .before .before .before .before .before .before .before .shared-slice-known .given i))) (sym (c .before .before .before .before .before .before .read-strictly .ensures) ∙ ap outcome (c .before .before .before .before .enum-told .given .1))) (c .before .before .put-frame .ensures)
+    rw (framed-is s (bytes-of s (λ i. omega (arith, c .before .before .before .before .before .before .before .before .shared-slice-known .given i))) (sym (c .before .before .before .before .before .before .judge .ensures) ∙ ap outcome (c .before .before .before .before .enum-told .given .1))) (c .before .before .put-frame .ensures)
 
 pub to-frame-spec : {M : Type 1} → statement M
 to-frame-spec =
     tie.close
     (tie.spec
-    read-strictly-requires
+    judge-requires
     enum-known-e
     enum-told
     put-frame-requires

@@ -1,96 +1,80 @@
--- `scan`: what judging refuses is refused, and of what it finds good head and options are put, where there is room for both.
-use mathlib.Core.Path.{sym, ap, subst, _∙_}
-use native.Mathlib.Omega.{arith}
+-- `scan`: the header decides, or leaves the answer to the options or to their absence.
+use Prim.Native.Nat.{_+_}
+use mathlib.Core.Path.{sym, ap, _∙_}
 use denote.Ref.{now}
-use lib.ListN.{length}
-use lib.Seq.{length-sets}
-use Rattle.ground.proofs.Part.{bytes-of}
-use Rattle.refusal.specs.Answer.{Answer}
-use Rattle.reading.specs.Reading.{reading}
-use Rattle.scanning.specs.Scanning.{Span, spanOf, extentOf}
-use Rattle.scanning.specs.Plain.{headIn, Noted}
-use Rattle.scanning.proofs.Judged.{Good, good, refused-read, scan-refused, scan-full, scan-puts}
+use Rattle.header.specs.Header.{rawRead}
+use Rattle.scanning.specs.Plain.{Open}
+use Rattle.scanning.proofs.Judged.{headed-refused, headed-open, scan-refused}
 use borrow.Author.Needs.{needs}
 use Rattle.scanning.proofs.scan.Statement.{statement}
 use Rattle.scanning.proofs.scan.Tie as tie
 
-slice-aggregate-noted : tie.Need-slice-aggregate-noted
-slice-aggregate-noted c = search needs
+-- The header that was read leaves the answer to what follows it.
+opened : (c : tie.After-token-length) → Open (c .before .before .before .before .before .before .before .args .strict) (now (c .before .before .before .before .before .before .before .args .datagram)) (4 + c .token-length .result)
+opened c =
+    let a = c .before .before .before .before .before .before .before .args in
+    rw (c .token-length .ensures) (headed-open (a .strict) (now (a .datagram)) _ (sym (c .before .before .before .before .opening .ensures) ∙ ap rawRead (c .before .before .raw .given .1)))
 
-noted-requires : tie.Need-noted-requires
-noted-requires c κs = search needs
+opening-requires : tie.Need-opening-requires
+opening-requires c κs = search needs
 
 enum-known-e : tie.Need-enum-known-e
 enum-known-e c = search needs
 
-enum-known-count : tie.Need-enum-known-count
-enum-known-count c = search needs
+enum-known-raw : tie.Need-enum-known-raw
+enum-known-raw c = search needs
 
--- What was judged good.
-judged-good : (c : tie.After-count) → Good (c .before .before .before .before .before .before .before .args .strict) (now (c .before .before .before .before .before .before .before .args .datagram)) (record { count = c .count .given .0 .0; end = c .count .given .0 .1 .0; payload = c .count .given .0 .1 .1 .0 })
-judged-good c =
-    let k = c .before .before .before .before .before .before in
-    let s = now (k .before .args .datagram) in
-    good (k .before .args .strict) s (bytes-of s (λ i. omega (arith, k .shared-slice-known .given i))) _ (sym (ap extentOf (c .count .given .1)) ∙ c .before .before .before .noted .ensures .0)
+token-length-requires : tie.Need-token-length-requires
+token-length-requires c κs = search needs
 
-mul-if1 : tie.Need-mul-if1
-mul-if1 c = omega (arith, judged-good (c .before) .few)
+cast-start : tie.Need-cast-start
+cast-start c = search needs
 
-add-if1 : tie.Need-add-if1
-add-if1 c = omega (arith, judged-good (c .before) .few)
+add-start : tie.Need-add-start
+add-start c = search needs
 
-returns : tie.Need-returns
-returns c =
-    let k = c .before .before in
-    let a = k .before .before .before .before .before .before .before .args in
-    scan-full (a .strict) (now (a .datagram)) (now (a .out)) _ (judged-good k) (c .if1 .taken)
+option-at-requires : tie.Need-option-at-requires
+option-at-requires c κs = search needs
 
-put-head-requires : tie.Need-put-head-requires
-put-head-requires c κs =
-    let g = judged-good (c .before .before .before) in
-    (omega (arith, c .before .if1 .left), g .long, g .short, g .payload, g .few)
-
-put-options-requires : tie.Need-put-options-requires
-put-options-requires c κs =
-    let h = c .before .before .before .before in
-    let e = h .before .before in
-    let k = e .before .before in
-    let a = k .before .before .before .before .before .before .before .args in
-    let g = judged-good k in
-    let same = ap length (h .put-head .ensures) ∙ length-sets (now (a .out)) 0 (headIn (now (a .datagram)) (k .count .given .0 .1 .1 .0) (k .count .given .0 .0)) in
-    ((g .token, g .short, omega (arith, e .if1 .left, same), g .few), (g .count ∙ ap length (sym (g .records)), subst (λ (x : Answer Span). Noted (a .strict) (now (a .datagram)) x (k .before .before .before .noted .last .1 .1 .0)) (ap extentOf (k .count .given .1)) (k .before .before .before .noted .ensures .1)))
-
-returns-2 : tie.Need-returns-2
-returns-2 c =
-    let n = c .before .before .before .before in
-    let a = n .before .before .before .before .args in
-    scan-refused (a .strict) (now (a .datagram)) (now (a .out)) _ (refused-read (reading (a .strict) (now (a .datagram))) spanOf _ (sym (ap extentOf (c .before .e .given .1)) ∙ n .noted .ensures .0))
+scan-options-requires : tie.Need-scan-options-requires
+scan-options-requires c κs = opened (c .before .before .before)
 
 same-length : tie.Need-same-length
 same-length c = search needs
 
+returns : tie.Need-returns
+returns c = c .before .before .scan-options .ensures
+
+scan-bare-requires : tie.Need-scan-bare-requires
+scan-bare-requires c κs = (opened (c .before .before .before), sym (c .before .before .option-at .ensures) ∙ c .before .if1 .left)
+
+returns-2 : tie.Need-returns-2
+returns-2 c =
+    let o = c .before .before .before in
+    let a = o .before .before .before .args in
+    scan-refused (a .strict) (now (a .datagram)) (now (a .out)) _ (headed-refused (a .strict) (now (a .datagram)) _ (sym (o .opening .ensures) ∙ ap rawRead (c .before .e .given .1)))
+
+same-length-2 : tie.Need-same-length-2
+same-length-2 c = search needs
+
 returns-3 : tie.Need-returns-3
-returns-3 c =
-    let p = c .before .before in
-    let h = p .before .before .before .before .before in
-    let e = h .before .before in
-    let k = e .before .before in
-    let a = k .before .before .before .before .before .before .before .args in
-    scan-puts (a .strict) (now (a .datagram)) (now (a .out)) _ (judged-good k) (omega (arith, e .if1 .left)) _ _ (h .put-head .ensures) (p .put-options .ensures)
+returns-3 c = c .before .before .scan-bare .ensures
 
 pub scan-spec : {M : Type 1} → statement M
 scan-spec =
     tie.close
     (tie.spec
-    slice-aggregate-noted
-    noted-requires
+    opening-requires
     enum-known-e
-    enum-known-count
-    mul-if1
-    add-if1
-    returns
-    put-head-requires
-    put-options-requires
-    returns-2
+    enum-known-raw
+    token-length-requires
+    cast-start
+    add-start
+    option-at-requires
+    scan-options-requires
     same-length
+    returns
+    scan-bare-requires
+    returns-2
+    same-length-2
     returns-3)

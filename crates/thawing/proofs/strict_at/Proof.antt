@@ -1,4 +1,4 @@
--- `strict_at`: a datagram of one chunk is read where it stands, any other once its chunks are copied together.
+-- `strict_at`: a datagram of one chunk is read where it stands, any other is judged in its chunks.
 use Prim.Native.Nat.{ℕ, _+_, _-_, _≤_}
 use mathlib.Core.Path.{_≡_, refl, sym, ap, _∙_}
 use mathlib.Core.List.{List}

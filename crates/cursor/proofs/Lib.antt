@@ -1,0 +1,5 @@
+pub mod Places
+pub mod Passing
+pub mod Stepping
+pub mod Accepting
+pub mod Distinct

@@ -1,0 +1,4 @@
+pub mod Records
+pub mod Sent
+pub mod Judged
+pub mod Places
