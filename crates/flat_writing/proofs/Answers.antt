@@ -3,11 +3,13 @@ use Prim.Native.Nat.{ℕ, _≤_}
 use mathlib.Core.Path.{_≡_, refl, sym, _∙_}
 use mathlib.Core.Bool.{Bool, false}
 use mathlib.Core.List.{List}
+use native.Mathlib.Nat.{zero-add}
 use lib.ListN.{length}
+use lib.Seq.{sets}
 use Rattle.ground.specs.Choice.{pick}
 use Rattle.ground.proofs.Choice.{on}
 use Rattle.refusal.specs.Answer.{Answer, given, refused, onward, after}
-use Rattle.refusal.proofs.Answers.{not-refused}
+use Rattle.refusal.proofs.Answers.{not-refused, same-given}
 use Rattle.placing.specs.Put.{Put}
 use Rattle.packet.specs.Packet.{Stores}
 use Rattle.packet.specs.declared.Packet.{Packet}
@@ -54,11 +56,14 @@ module _ (strict : Bool) (l : List ℕ) (s : Stores) (old : List ℕ) where
     unfolding packetOver unflat
     over = rw (parts .0, parts .1)
 
-    pub fits : Sound (lengthsOf s) l × (length (bytesWritten strict s (packetIn l)) ≤ length old)
-    fits =
-        let r = roomy strict Unlimited (packetIn l) s old n (parts .2) in
-        (record { flat = parts .1; packet = r .0 }, r .1)
-
     -- So a message that was put is one that was written.
     pub wrote : (r : ℕ) (new : List ℕ) → Put old 0 (bytesWritten strict s (packetIn l)) r new → Writes strict l s old (given r) new
     wrote r new q = let w = writes strict Unlimited (packetIn l) s old n (parts .2) r new q in rw over (w .answer, w .output)
+
+    -- The length is that of the message, for which there is room.
+    pub fits : Sound (lengthsOf s) l × (length (bytesWritten strict s (packetIn l)) ≤ length old) × (n ≡ length (bytesWritten strict s (packetIn l)))
+    fits =
+        let bytes = bytesWritten strict s (packetIn l) in
+        let r = roomy strict Unlimited (packetIn l) s old n (parts .2) in
+        let w = wrote (length bytes) (sets old 0 bytes) (record { next = sym (zero-add (length bytes)); out = refl }) in
+        (record { flat = parts .1; packet = r .0 }, r .1, same-given (sym (w .0 ∙ (copying-measured strict (length old) s l ∙ e))))

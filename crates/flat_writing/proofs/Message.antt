@@ -3,8 +3,10 @@ use Prim.Native.Nat.{ℕ, _+_, _≤_}
 use mathlib.Core.Path.{_≡_, refl, sym, ap, subst, _∙_}
 use mathlib.Core.Bool.{Bool, false}
 use mathlib.Core.List.{List}
+use native.Mathlib.Nat.{zero-add}
 use native.Mathlib.Omega.{arith}
 use lib.ListN.{length, getD}
+use lib.Seq.{sets, length-sets}
 use Rattle.rfc.specs.Message.{optionsLayout, payloadLayout}
 use Rattle.refusal.specs.Answer.{given, written}
 use Rattle.refusal.specs.declared.Written.{Written}
@@ -15,13 +17,16 @@ use Rattle.packet.specs.Meaning.{meaning}
 use Rattle.judging.specs.Judge.{lengthsOf}
 use Rattle.judging.proofs.Ranges.{range-exactly}
 use Rattle.laying.specs.Laying.{laid, LaysHeader, LaysPayload}
+use Rattle.laying.proofs.Laid.{lays-given, lays-put}
 use Rattle.writing.specs.Writing.{sent, bytesWritten}
 use Rattle.writing.proofs.Sizes.{message-length}
-use Rattle.writing.proofs.Parts.{begin, last-given, whole}
+use Rattle.writing.proofs.Parts.{head-kept, options-within, last-given, whole}
 use Rattle.unflat.specs.Unflat.{badHead, headerIn, rangeAt, packetIn}
 use Rattle.flat_measuring.specs.FlatMeasuring.{Sound, sentIn}
 use Rattle.flat_measuring.proofs.Sent.{sent-is}
 use Rattle.flat_measuring.proofs.Places.{places}
+use Rattle.flat_writing.specs.Loosely.{Like, Loosely}
+use Rattle.flat_writing.proofs.Loosely.{like-put, like-end}
 
 module _ (strict : Bool) (s : Stores) (l old : List ℕ) (k : Sound (lengthsOf s) l) (room : length (bytesWritten strict s (packetIn l)) ≤ length old) where
   token-room : 4 + length (bytesOf s (rangeAt l 4)) ≤ length (bytesWritten strict s (packetIn l))
@@ -40,21 +45,48 @@ module _ (strict : Bool) (s : Stores) (l old : List ℕ) (k : Sound (lengthsOf s
       unfolding packetIn
       head = subst (λ (x : List ℕ). LaysHeader (headerIn l) x old (Length first) mid) t h
 
-      -- There is room for the options.
-      pub options-fit : first + length (optionsLayout 0 (meaning s (packetIn l) .options)) ≤ length mid
-      options-fit = begin strict s (packetIn l) old (k .packet) room (Length first) first mid head refl .fits
+      -- The options end within the message, and there is room for all of it.
+      pub options-fit : (first + length (optionsLayout 0 (meaning s (packetIn l) .options)) ≤ length (bytesWritten strict s (packetIn l))) × (length (bytesWritten strict s (packetIn l)) ≤ length mid)
+      options-fit =
+          let kept = head-kept strict s (packetIn l) old (k .packet) room (Length first) first mid head refl in
+          (options-within strict s (packetIn l) old (k .packet) room (Length first) first mid head refl, omega (arith, room, kept))
 
-      module _ (out : List ℕ) (next : ℕ) (o : Put mid first (optionsLayout 0 (meaning s (packetIn l) .options)) next out) (payload : List ℕ) (y : payload ≡ bytesOf s (sentIn strict l)) where
+      module _ (out : List ℕ) (next : ℕ) (o : Loosely mid first (optionsLayout 0 (meaning s (packetIn l) .options)) (length (bytesWritten strict s (packetIn l))) next out) (payload : List ℕ) (y : payload ≡ bytesOf s (sentIn strict l)) where
         payload-is : payload ≡ meaning s (sent strict (packetIn l)) .payload
         payload-is = y ∙ ap (bytesOf s) (sym (sent-is strict l))
 
-        -- The payload is laid, and then all is put.
+        -- The output that holds the options and is otherwise as it was.
+        abbrev exact : List ℕ
+        exact = sets mid first (optionsLayout 0 (meaning s (packetIn l) .options))
+
+        options-put : Put mid first (optionsLayout 0 (meaning s (packetIn l) .options)) next exact
+        options-put = record { next = o .next; out = refl }
+
+        same : length out ≡ length exact
+        same = o .kept ∙ sym (length-sets mid first (optionsLayout 0 (meaning s (packetIn l) .options)))
+
+        exact-fits : laid (length exact) next (payloadLayout payload) ≡ given (length (payloadLayout payload))
+        exact-fits =
+            subst (λ (x : List ℕ). laid (length exact) next (payloadLayout x) ≡ given (length (payloadLayout x))) (sym payload-is)
+            (last-given strict s (packetIn l) old (k .packet) room (Length first) first mid head refl exact next options-put)
+
+        -- The payload is laid, and then all is put: nothing is loose any more.
         pub payload-fits : laid (length out) next (payloadLayout payload) ≡ given (length (payloadLayout payload))
-        payload-fits =
-            subst (λ (x : List ℕ). laid (length out) next (payloadLayout x) ≡ given (length (payloadLayout x))) (sym payload-is)
-            (last-given strict s (packetIn l) old (k .packet) room (Length first) first mid head refl out next o)
+        payload-fits = rw same exact-fits
+
+        exactly : Put old 0 (bytesWritten strict s (packetIn l)) (next + length (payloadLayout payload)) (sets exact next (payloadLayout payload))
+        exactly =
+            let bytes = payloadLayout payload in
+            let laid-there = lays-given _ next bytes exact (length bytes) (sets exact next bytes) exact-fits refl in
+            whole strict s (packetIn l) old (k .packet) room (Length first) first mid head refl exact next options-put (Length (length bytes)) (length bytes) (sets exact next bytes)
+            (subst (λ (x : List ℕ). LaysPayload x next exact (Length (length bytes)) (sets exact next bytes)) payload-is laid-there) refl
 
         pub message-put : (final : Written) (n : ℕ) (new : List ℕ) → LaysPayload payload next out final new → written final ≡ given n → Put old 0 (bytesWritten strict s (packetIn l)) (next + n) new
         message-put final n new m v =
-            whole strict s (packetIn l) old (k .packet) room (Length first) first mid head refl out next o final n new
-            (subst (λ (x : List ℕ). LaysPayload x next out final new) payload-is m) v
+            let bytes = payloadLayout payload in
+            let end = length (bytesWritten strict s (packetIn l)) in
+            let p = lays-put _ next bytes out final n new payload-fits m v in
+            let ends : next + length bytes ≡ end = exactly .next ∙ zero-add end in
+            let fits : end ≤ length out = omega (arith, room, o .kept, options-fit .1) in
+            let like : Like end end (sets out next bytes) (sets exact next bytes) = rw ends at (like-put out exact next bytes end (o .like) (omega (arith, ends)) fits same) in
+            record { next = p .next ∙ exactly .next; out = p .out ∙ (like-end end _ _ like ∙ exactly .out) }

@@ -1,1 +1,2 @@
 pub mod FlatWriting
+pub mod Loosely

@@ -15,7 +15,7 @@ use Rattle.judging.specs.Judge.{lengthsOf, lengthIn, badValue}
 use Rattle.judging.proofs.Good.{value-inside}
 
 -- The length of a home's store is the home's length.
-length-in : (s : Stores) (h : Home) → length (storeOf s h) ≡ lengthIn (lengthsOf s) h
+pub length-in : (s : Stores) (h : Home) → length (storeOf s h) ≡ lengthIn (lengthsOf s) h
 length-in s Datagram = refl
 length-in s Edits = refl
 

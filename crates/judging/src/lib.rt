@@ -55,8 +55,6 @@ pub fn judge(packet: Packet, lengths: Lengths) -> Judged
     ensures { λ r. ⌜ judged r ≡ judging lengths packet ⌝ }
 {
     let count = packet.count;
-    // Taken out by itself: an index into the packet's own array would have the whole packet copied.
-    let options = packet.options;
     if 3 < packet.header.version {
         return Judged::BadRecord;
     }
@@ -66,6 +64,12 @@ pub fn judge(packet: Packet, lengths: Lengths) -> Judged
     if bad_ranges(lengths, packet.token, packet.payload) {
         return Judged::BadRecord;
     }
+    if count == 0 {
+        return Judged::OptionsSize(0);
+    }
+    // Taken out by itself: an index into the packet's own array would have the whole packet copied. This is a copy too, and a
+    // packet with no option is spared it.
+    let options = packet.options;
     let mut before: u16 = 0;
     let mut size: usize = 0;
     let mut i = 0;

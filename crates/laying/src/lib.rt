@@ -69,7 +69,7 @@ fn judged_option(before: u16, number: u16, len: usize, room: usize, at: usize) -
 }
 
 // Most options are short: neither their delta nor their length has an extension. Those are sized and put without looking for one.
-fn is_short(delta: usize, len: usize) -> bool
+pub fn is_short(delta: usize, len: usize) -> bool
     ensures { λ r. ⌜ r ≡ both (ltb delta 13) (ltb len 13) ⌝ }
 {
     delta < 13 && len < 13
@@ -103,7 +103,7 @@ fn put_parts(out: &mut [u8], at: usize, delta: usize, value: &[u8]) -> usize
 }
 
 // The nibble of a delta or a length.
-fn nibble(n: usize) -> u8
+pub fn nibble(n: usize) -> u8
     ensures { λ r. ⌜ r ≡ nibbleOf n ⌝ }
 {
     if n < 13 {

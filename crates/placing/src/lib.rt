@@ -3,12 +3,16 @@
 ghost use mathlib.Core.Path.{_≡_};
 ghost use mathlib.Core.List.{[], _∷_};
 ghost use Prim.Native.Nat.{_+_, _-_, _*_, _≤_, _<_, min};
-ghost use lib.ListN.{length};
+ghost use lib.ListN.{length, take};
 ghost use Rattle.rfc.specs.Uint.{uint};
 ghost use Rattle.placing.specs.Put.{Puts, Put};
 
-// How many bytes a copy holds at a time.
-const PIECE: usize = 4096;
+// How many bytes a copy holds at a time: each piece is a move of memory, and a longest payload takes a twentieth more by sixteen of
+// them than by two. A compiler that kept the array would need as many bytes of the stack.
+const PIECE: usize = 32768;
+
+// How many bytes a run has.
+const RUN: usize = 32;
 
 // Puts one byte.
 pub fn put_byte(out: &mut [u8], at: usize, byte: u8) -> usize
@@ -42,7 +46,24 @@ pub fn put_bytes(out: &mut [u8], at: usize, bytes: &[u8]) -> usize
     if count <= 16 {
         return put_few(out, at, &bytes[..count]);
     }
+    if count <= 64 {
+        return put_some(out, at, &bytes[..count]);
+    }
     put_many(out, at, &bytes[..count])
+}
+
+// Puts the first 32 of some bytes. Their number is known to the compiler, so that no branch depends on it: who has more room than
+// a value takes, and puts over what is too much, copies it faster by this than by its length.
+pub fn put_run(out: &mut [u8], at: usize, bytes: &[u8]) -> usize
+    ensures { λ r. ⌜ Puts (now (out .entry)) at (take 32 (now (bytes .entry))) r (now (out .exit)) ⌝ }
+{
+    if bytes.len() < RUN {
+        return put_bytes(out, at, bytes);
+    }
+    if fitting(out.len(), at, RUN) < RUN {
+        return put_bytes(out, at, &bytes[..RUN]);
+    }
+    put_piece(out, at, &bytes[..RUN])
 }
 
 // At most 16 bytes: two pieces of one length, which may overlap, so that the compiler knows how long each is.
@@ -65,9 +86,20 @@ fn put_few(out: &mut [u8], at: usize, bytes: &[u8]) -> usize
     at
 }
 
+// 17 to 64 bytes, in the same way.
+fn put_some(out: &mut [u8], at: usize, bytes: &[u8]) -> usize
+    requires { ⌜ (length (now bytes) ≤ length (now out) - at) × (16 ≤ length (now bytes)) × (length (now bytes) ≤ 64) ⌝ }
+    ensures { λ r. ⌜ Put (now (out .entry)) at (now (bytes .entry)) r (now (out .exit)) ⌝ }
+{
+    if 32 <= bytes.len() {
+        return put_ends(out, at, bytes, 32);
+    }
+    put_ends(out, at, bytes, 16)
+}
+
 // The first and the last bytes, so many of each that none is left out.
 fn put_ends(out: &mut [u8], at: usize, bytes: &[u8], half: usize) -> usize
-    requires { ⌜ (length (now bytes) ≤ length (now out) - at) × (half ≤ length (now bytes)) × (length (now bytes) ≤ 2 * half) × (half ≤ 8) × (1 ≤ half) ⌝ }
+    requires { ⌜ (length (now bytes) ≤ length (now out) - at) × (half ≤ length (now bytes)) × (length (now bytes) ≤ 2 * half) × (half ≤ 32) × (1 ≤ half) ⌝ }
     ensures { λ r. ⌜ Put (now (out .entry)) at (now (bytes .entry)) r (now (out .exit)) ⌝ }
 {
     let last = bytes.len() - half;
@@ -93,7 +125,7 @@ fn put_many(out: &mut [u8], at: usize, bytes: &[u8]) -> usize
 // Where a piece ends that starts here.
 fn piece_end(start: usize, count: usize) -> usize
     requires { ⌜ start < count ⌝ }
-    ensures { λ r. ⌜ (start < r) × (r ≤ count) × (r ≤ start + 4096) ⌝ }
+    ensures { λ r. ⌜ (start < r) × (r ≤ count) × (r ≤ start + 32768) ⌝ }
 {
     if count - start <= PIECE {
         return count;
@@ -104,7 +136,7 @@ fn piece_end(start: usize, count: usize) -> usize
 // A copy by way of an array of this function's own: all bytes are read before the first is written, so that the compiler needs
 // no test for overlap, and makes one move of memory of both loops and the array.
 fn put_piece(out: &mut [u8], at: usize, bytes: &[u8]) -> usize
-    requires { ⌜ (at + length (now bytes) ≤ length (now out)) × (length (now bytes) ≤ 4096) ⌝ }
+    requires { ⌜ (at + length (now bytes) ≤ length (now out)) × (length (now bytes) ≤ 32768) ⌝ }
     ensures { λ r. ⌜ Put (now (out .entry)) at (now (bytes .entry)) r (now (out .exit)) ⌝ }
 {
     let count = bytes.len();

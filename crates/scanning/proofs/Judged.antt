@@ -45,10 +45,9 @@ module _ (longest : ℕ) (s : List ℕ) (from : ℕ) where
     pub whole : options longest s 128 0 from ≡ ahead passed (options longest s (128 - count) number at)
     pub ends : at ≡ lastEnd from passed
     pub noted : Places from passed places
-    pub size : length places ≡ 128
 
-  pub going-start : (places : List ℕ) → length places ≡ 128 → from ≤ length s → Going places 0 0 from
-  going-start places n h =
+  pub going-start : (places : List ℕ) → from ≤ length s → Going places 0 0 from
+  going-start places h =
       record {
         passed = [];
         counted = refl;
@@ -56,21 +55,21 @@ module _ (longest : ℕ) (s : List ℕ) (from : ℕ) where
         inside = h;
         whole = ahead-none (options longest s 128 0 from);
         ends = refl;
-        noted = λ k l. absurd (omega (arith, l));
-        size = n;
+        noted = λ k l r. absurd (omega (arith, l));
       }
 
   module _ (places : List ℕ) (count number at : ℕ) (g : Going places count number at) where
-    noted-more : (r : OptionRecord) → count < 128 → Places from (g .passed ++ (r ∷ [])) (set places count at)
-    noted-more r h k l =
+    noted-more : (r : OptionRecord) → Places from (g .passed ++ (r ∷ [])) (set places count at)
+    noted-more r k l z =
         let rs = g .passed in
         let n = g .counted in
+        let y : k < length places = omega (arith, z, length-set places count at) in
         by-lt k (length rs)
-        (λ m. getD-set-other places count k at 0 (λ e. omega (arith, e, m, n)) ∙ (g .noted k m ∙ ap (lastEnd from) (sym (take-append-le k rs (r ∷ []) (omega arith)))))
+        (λ m. getD-set-other places count k at 0 (λ e. omega (arith, e, m, n)) ∙ (g .noted k m y ∙ ap (lastEnd from) (sym (take-append-le k rs (r ∷ []) (omega arith)))))
         (λ m.
         let e : k ≡ length rs = omega (arith, l, length-append rs (r ∷ [])) in
         ap (λ (i : ℕ). getD (set places count at) i 0) (e ∙ sym n)
-        ∙ (getD-set-same places count at 0 (omega (arith, g .size))
+        ∙ (getD-set-same places count at 0 (omega (arith, y, e, n))
         ∙ (g .ends ∙ ap (lastEnd from) (sym (take-append-seam rs (r ∷ [])) ∙ ap (λ (i : ℕ). take i (rs ++ (r ∷ []))) (sym e)))))
 
     pub going-turn : (r : OptionRecord) → placeAt longest s number at ≡ given (option r) → count < 128 → end r ≤ length s
@@ -85,8 +84,7 @@ module _ (longest : ℕ) (s : List ℕ) (from : ℕ) where
           whole = g .whole ∙ (rw left (ap (ahead (g .passed)) (options-more longest s (128 - (count + 1)) number at r e))
               ∙ ahead-before (g .passed) r (options longest s (128 - (count + 1)) (r .number) (end r)));
           ends = sym (last-end from (g .passed) r);
-          noted = noted-more r h;
-          size = length-set places count at ∙ g .size;
+          noted = noted-more r;
         }
 
     pub going-refuses : (k : ℕ) → placeAt longest s number at ≡ refused k → options longest s 128 0 from ≡ refused k
@@ -113,7 +111,7 @@ told strict s start most places m t e a p q =
 
 pub told-refused : (strict : Bool) (s : List ℕ) (start most : ℕ) (places : List ℕ) → most ≡ longest strict → (k : ℕ) → options most s 128 0 start ≡ refused k
     → (refused k ≡ spans strict s start) × Places start (optionsFrom strict s start) places
-told-refused strict s start most places m k e = told strict s start most places m (refused k) e (refused k) refl (λ i l. absurd (omega (arith, l)))
+told-refused strict s start most places m k e = told strict s start most places m (refused k) e (refused k) refl (λ i l r. absurd (omega (arith, l)))
 
 -- The span of an end that is no bare marker in strict mode, and the refusal of one that is.
 module _ (strict : Bool) (s : List ℕ) (start : ℕ) (t : Tail) where

@@ -133,6 +133,7 @@ next longest s rs i number at l h k =
 pub record Second (strict : Bool) (s places : List ℕ) (count : ℕ) (old out : List ℕ) (number i : ℕ) : Type 0 where
   pub within : i ≤ count
   pub few : count ≤ 128
+  pub roomy : count ≤ length places
   pub short : length s ≤ 70000
   pub counted : count ≡ length (optionsFrom strict s (start s))
   pub noted : Places (start s) (optionsFrom strict s (start s)) places
@@ -156,7 +157,7 @@ module _ (strict : Bool) (s places : List ℕ) (count : ℕ) (old out : List ℕ
       record {
         r = n .r;
         first = n .first;
-        plain = rw (h .noted i (omega (arith, h .counted))) (n .plain);
+        plain = rw (h .noted i (omega (arith, h .counted)) (omega (arith, h .roomy))) (n .plain);
         onward = rw (one, last-end (start s) (take i rs) (n .r)) (n .onward);
       }
 
@@ -168,6 +169,7 @@ module _ (strict : Bool) (s places : List ℕ) (count : ℕ) (old out : List ℕ
       record {
         within = omega arith;
         few = h .few;
+        roomy = h .roomy;
         short = h .short;
         counted = h .counted;
         noted = h .noted;

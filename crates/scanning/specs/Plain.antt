@@ -55,9 +55,9 @@ spanned strict s at t =
 abbrev pub spans : Bool → List ℕ → ℕ → Answer Span
 spans strict s at = onward (options (longest strict) s 128 0 at) (spanned strict s at)
 
--- Each option's place is noted: where the options before it end.
+-- Each option's place is noted that there is room for: where the options before it end.
 abbrev pub Places : ℕ → List OptionRecord → List ℕ → Type 0
-Places at rs places = (k : ℕ) → k < length rs → getD places k 0 ≡ lastEnd at (take k rs)
+Places at rs places = (k : ℕ) → k < length rs → k < length places → getD places k 0 ≡ lastEnd at (take k rs)
 
 -- Whether an option stands at a position: neither the datagram's end nor FF is there.
 unfoldable pub stands : List ℕ → ℕ → Bool

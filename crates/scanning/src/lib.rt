@@ -12,7 +12,7 @@ use refusal::Refusal;
 ghost use mathlib.Core.Path.{_≡_};
 ghost use mathlib.Core.Bool.{Bool};
 ghost use Prim.Native.Nat.{_+_, _*_, _≤_, _<_};
-ghost use lib.ListN.{length};
+ghost use lib.ListN.{length, set};
 ghost use lib.Seq.{sets};
 ghost use Rattle.refusal.specs.Answer.{outcome, after};
 ghost use Rattle.option_reading.specs.Answers.{ByteAt};
@@ -39,8 +39,8 @@ pub fn judge(strict: bool, datagram: &[u8]) -> Extent
         RawRead::Raw(raw) => {
             let start = 4 + raw.token_length() as usize;
             if option_at(datagram, start) {
-                let mut places = [0u32; MAX_OPTIONS];
-                return walked(strict, datagram, start, &mut places);
+                let mut unnoted = [0u32; 0];
+                return walked(strict, datagram, start, &mut unnoted);
             }
             bare(strict, datagram, start)
         }
@@ -79,9 +79,10 @@ fn bare(strict: bool, buf: &[u8], start: usize) -> Extent
     }
 }
 
-// The walk over the options. `place_at` is put into it by the compiler only while nothing else of a linked unit calls it.
+// The walk over the options, which notes the places of the first of them, as many as there is room for: who only judges lends none.
+// `place_at` is put into it by the compiler only while nothing else of a linked unit calls it.
 fn walked(strict: bool, buf: &[u8], start: usize, places: &mut [u32]) -> Extent
-    requires { ⌜ (start ≤ length (now buf)) × (length (now buf) ≤ 70000) × (length (now places) ≡ 128) ⌝ }
+    requires { ⌜ (start ≤ length (now buf)) × (length (now buf) ≤ 70000) ⌝ }
     ensures { λ r. ⌜ extentOf r ≡ spans strict (now (buf .entry)) start ⌝ }
     ensures { λ r. ⌜ Places start (optionsFrom strict (now (buf .entry)) start) (now (places .exit)) ⌝ }
 {
@@ -108,12 +109,21 @@ fn walked(strict: bool, buf: &[u8], start: usize, places: &mut [u32]) -> Extent
                 if MAX_OPTIONS <= count {
                     return Extent::Refused(Refusal::TooManyOptions);
                 }
-                places[count] = idx as u32;
+                note(places, count, idx as u32);
                 count = count + 1;
                 number = r.number;
                 idx = r.start as usize + r.len as usize;
             }
         }
+    }
+}
+
+// Notes where an option stands, if there is room for it.
+fn note(places: &mut [u32], count: usize, idx: u32)
+    ensures { λ r. ⌜ now (places .exit) ≡ set (now (places .entry)) count idx ⌝ }
+{
+    if count < places.len() {
+        places[count] = idx;
     }
 }
 
@@ -209,7 +219,7 @@ fn put_options<'a>(
     places: &'a [u32; MAX_OPTIONS],
     count: usize,
 )
-    requires { ⌜ (start (now buf) ≤ length (now buf)) × (length (now buf) ≤ 70000) × (11 + 4 * count ≤ length (now out)) × (count ≤ 128) ⌝ }
+    requires { ⌜ (start (now buf) ≤ length (now buf)) × (length (now buf) ≤ 70000) × (11 + 4 * count ≤ length (now out)) × (count ≤ 128) × (count ≤ length (now places)) ⌝ }
     requires { ⌜ (count ≡ length (optionsFrom strict (now buf) (start (now buf)))) × Places (start (now buf)) (optionsFrom strict (now buf) (start (now buf))) (now places) ⌝ }
     ensures { λ r. ⌜ now (out .exit) ≡ sets (now (out .entry)) 11 (flatRecords (optionsFrom strict (now (buf .entry)) (start (now (buf .entry))))) ⌝ }
 {

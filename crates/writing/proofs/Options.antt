@@ -46,16 +46,16 @@ module _ (s : Stores) (rs : List OptionRecord) (old : List ℕ) (from : ℕ) whe
   module _ (out : List ℕ) (before next i : ℕ) (w : Putting s rs old from out before next i) where
     module _ (r : OptionRecord) (d : drop i rs ≡ r ∷ drop (i + 1) rs) where
       -- The option's bytes, and then those that are left after it.
-      split : leftover s rs before i ≡ optionLayout before (optionOf s r) ++ leftover s rs (r .number) (i + 1)
+      pub split : leftover s rs before i ≡ optionLayout before (optionOf s r) ++ leftover s rs (r .number) (i + 1)
       split = ap (λ (l : List OptionRecord). optionsLayout before (map (optionOf s) l)) d
 
-      rises : before ≤ r .number
+      pub rises : before ≤ r .number
       rises = ltb-false (r .number) before (neither (ltb (r .number) before) (falling (r .number) (drop (i + 1) rs)) (ap (falling before) (sym d) ∙ w .ordered) .0)
 
-      good : (badValue (lengthsOf s) r ≡ false) × (badValues (lengthsOf s) (drop (i + 1) rs) ≡ false)
+      pub good : (badValue (lengthsOf s) r ≡ false) × (badValues (lengthsOf s) (drop (i + 1) rs) ≡ false)
       good = neither (badValue (lengthsOf s) r) (badValues (lengthsOf s) (drop (i + 1) rs)) (ap (badValues (lengthsOf s)) (sym d) ∙ w .values)
 
-      short : length (valueOf s r) ≤ 65804
+      pub short : length (valueOf s r) ≤ 65804
       short = omega (arith, bytes-at-most (storeOf s (r .home)) (r .start) (r .len), value-length (lengthsOf s) r (good .0))
 
       pub room : next + length (optionLayout before (optionOf s r)) ≤ length out

@@ -50,6 +50,13 @@ module _ (strict : Bool) (s : Stores) (p : Packet) (old : List ℕ) (e : badPack
     head : Put old 0 (headLayout (p .header) (message .token)) k mid
     head = rw (zero-add k) at (lays-put _ 0 _ old piece k mid head-given l w)
 
+    pub head-kept : length mid ≡ length old
+    head-kept = put-length _ _ _ _ _ head
+
+    -- The options end within the message.
+    pub options-within : k + length options ≤ length (bytesWritten strict s p)
+    options-within = omega (arith, head .next, head-length (p .header) (message .token), message-length message)
+
     -- Then the options begin.
     pub begin : Putting s (recordsOf p) mid k mid 0 k 0
     begin =

@@ -107,7 +107,7 @@ pub fn to_bytes_in<'a>(
 }
 
 // Puts the message at the start of the output: header and token, options, payload. The options are taken out and walked in
-// this function: in one of their own they would be copied again.
+// this function: in one of their own they would be copied again. A packet with no option is spared the copy.
 fn put_message<'a>(
     out: &mut [u8],
     strict: bool,
@@ -123,9 +123,14 @@ fn put_message<'a>(
     let token = packet.token;
     let payload = sent_payload(strict, code, packet.payload);
     let count = packet.count;
-    let options = packet.options;
     let token_bytes = token.part(datagram, edits);
-    let mut next = taken(put_header(out, header, token_bytes));
+    let payload_bytes = payload.part(datagram, edits);
+    let first = taken(put_header(out, header, token_bytes));
+    if count == 0 {
+        return first + taken(put_payload(out, first, payload_bytes));
+    }
+    let options = packet.options;
+    let mut next = first;
     let mut before: u16 = 0;
     let mut i = 0;
     while i < count {
@@ -135,7 +140,6 @@ fn put_message<'a>(
         before = record.number;
         i = i + 1;
     }
-    let payload_bytes = payload.part(datagram, edits);
     next + taken(put_payload(out, next, payload_bytes))
 }
 

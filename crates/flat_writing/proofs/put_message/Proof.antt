@@ -12,7 +12,7 @@ put-at : tie.Need-returns
 put-at c =
     let st = c .before .before .before .before .before .before .before .before .before .before .before .before .before .before .before .before .before .before .before .before .before .before in
     let a = st .args in
-    message-put (a .strict) (stores (a .datagram .now) (a .edits .now)) (a .numbers .now) (a .out .now) (st .pre .0) (st .pre .1) _ (c .before .before .before .before .before .before .before .before .before .before .before .before .before .before .part .ensures) _ _ (c .before .before .before .before .before .before .before .before .before .before .before .before .put-head .ensures) _ _ (c .before .before .before .before .before .before .before .before .put-options .ensures) _ (c .before .before .before .before .before .sent-payload .ensures) _ _ _ (c .before .before .before .put-payload .ensures) (c .taken .ensures)
+    message-put (a .strict) (stores (a .datagram .now) (a .edits .now)) (a .numbers .now) (a .out .now) (st .pre .0) (st .pre .1) _ (c .before .before .before .before .before .before .before .before .before .before .before .before .before .before .part .ensures) _ _ (c .before .before .before .before .before .before .before .before .before .before .before .before .put-head .ensures) _ _ (rw (st .pre .2) at (c .before .before .before .before .before .before .before .before .put-options .ensures)) _ (c .before .before .before .before .before .sent-payload .ensures) _ _ _ (c .before .before .before .put-payload .ensures) (c .taken .ensures)
 
 shared-slice-read-part : tie.Need-shared-slice-read-part
 shared-slice-read-part c = omega (arith, places _ _ (c .before .before .before .before .before .pre .0) .head)
@@ -30,7 +30,9 @@ put-head-requires : tie.Need-put-head-requires
 put-head-requires c κs = let st = c .before .before .before .before .before .before .before .before .before in let a = st .args in head-fits (a .strict) (stores (a .datagram .now) (a .edits .now)) (a .numbers .now) (a .out .now) (st .pre .0) (st .pre .1) _ (c .before .part .ensures)
 
 put-options-requires : tie.Need-put-options-requires
-put-options-requires c κs = let st = c .before .before .before .before .before .before .before .before .before .before .before .before .before in let a = st .args in (st .pre .0, options-fit (a .strict) (stores (a .datagram .now) (a .edits .now)) (a .numbers .now) (a .out .now) (st .pre .0) (st .pre .1) _ (c .before .before .before .before .before .part .ensures) _ _ (c .before .before .before .put-head .ensures))
+put-options-requires c κs = let st = c .before .before .before .before .before .before .before .before .before .before .before .before .before in let a = st .args in
+    let f = options-fit (a .strict) (stores (a .datagram .now) (a .edits .now)) (a .numbers .now) (a .out .now) (st .pre .0) (st .pre .1) _ (c .before .before .before .before .before .part .ensures) _ _ (c .before .before .before .put-head .ensures) in
+    (st .pre .0, omega (arith, f .0, st .pre .2), omega (arith, f .1, st .pre .2))
 
 sent-payload-requires : tie.Need-sent-payload-requires
 sent-payload-requires c κs = search needs
@@ -42,7 +44,7 @@ taken-requires : tie.Need-taken-requires
 taken-requires c κs =
     let st = c .before .before .before .before .before .before .before .before .before .before .before .before .before .before .before .before .before .before .before .before .before in
     let a = st .args in
-    (_, c .before .before .put-payload .ensures .answer ∙ payload-fits (a .strict) (stores (a .datagram .now) (a .edits .now)) (a .numbers .now) (a .out .now) (st .pre .0) (st .pre .1) _ (c .before .before .before .before .before .before .before .before .before .before .before .before .before .part .ensures) _ _ (c .before .before .before .before .before .before .before .before .before .before .before .put-head .ensures) _ _ (c .before .before .before .before .before .before .before .put-options .ensures) _ (c .before .before .before .before .sent-payload .ensures))
+    (_, c .before .before .put-payload .ensures .answer ∙ payload-fits (a .strict) (stores (a .datagram .now) (a .edits .now)) (a .numbers .now) (a .out .now) (st .pre .0) (st .pre .1) _ (c .before .before .before .before .before .before .before .before .before .before .before .before .before .part .ensures) _ _ (c .before .before .before .before .before .before .before .before .before .before .before .put-head .ensures) _ _ (rw (st .pre .2) at (c .before .before .before .before .before .before .before .put-options .ensures)) _ (c .before .before .before .before .sent-payload .ensures))
 
 add-result : tie.Need-add-result
 add-result c = omega (arith, put-at c .next, c .before .before .before .before .before .before .before .before .before .before .before .before .before .before .before .before .before .before .before .before .before .before .pre .1)

@@ -23,13 +23,13 @@ measured-requires c κs = search needs
 enum-known-e : tie.Need-enum-known-e
 enum-known-e c = search needs
 
-enum-told : tie.Need-enum-told
-enum-told c = search needs
+enum-known-end : tie.Need-enum-known-end
+enum-known-end c = search needs
 
 put-message-requires : tie.Need-put-message-requires
 put-message-requires c κs =
-    let a = c .before .before .before .before .before .before .before .before .before .args in
-    fits (a .strict) (a .numbers .now) (stores (a .datagram .now) (a .edits .now)) (a .out .now) _ (sym (measured-at (c .before .before .before)) ∙ ap written (c .before .enum-told .given .1))
+    let a = c .before .before .before .before .before .before .before .before .before .before .args in
+    fits (a .strict) (a .numbers .now) (stores (a .datagram .now) (a .edits .now)) (a .out .now) _ (sym (measured-at (c .before .before .before .before)) ∙ ap written (c .before .before .end .given .1))
 
 returns : tie.Need-returns
 returns c =
@@ -41,8 +41,8 @@ same-length c = search needs
 
 returns-2 : tie.Need-returns-2
 returns-2 c =
-    let a = c .before .before .before .before .before .before .before .before .before .before .before .before .args in
-    wrote (a .strict) (a .numbers .now) (stores (a .datagram .now) (a .edits .now)) (a .out .now) _ (sym (measured-at (c .before .before .before .before .before .before)) ∙ ap written (c .before .before .before .before .enum-told .given .1)) _ _ (c .before .before .put-message .ensures)
+    let a = c .before .before .before .before .before .before .before .before .before .before .before .before .before .args in
+    wrote (a .strict) (a .numbers .now) (stores (a .datagram .now) (a .edits .now)) (a .out .now) _ (sym (measured-at (c .before .before .before .before .before .before .before)) ∙ ap written (c .before .before .before .before .before .end .given .1)) _ _ (c .before .before .put-message .ensures)
 
 pub write-spec : {M : Type 1} → statement M
 write-spec =
@@ -51,7 +51,7 @@ write-spec =
     of-requires
     measured-requires
     enum-known-e
-    enum-told
+    enum-known-end
     put-message-requires
     returns
     same-length

@@ -29,19 +29,33 @@ same-length c = put-length _ _ _ _ _ (c .before .before .put-few .ensures)
 returns : tie.Need-returns
 returns c = put-fitting _ _ _ _ _ _ (c .before .before .before .before .before .before .fitting .ensures) (c .before .before .put-few .ensures)
 
+slice-aggregate-put-some : tie.Need-slice-aggregate-put-some
+slice-aggregate-put-some c = sym (size (c .before .before .before .before))
+
+put-some-requires : tie.Need-put-some-requires
+put-some-requires c κs =
+    let f = c .before .before .before .before in
+    (omega (arith, size f, f .fitting .ensures), omega (arith, size f), omega (arith, size f))
+
+same-length-2 : tie.Need-same-length-2
+same-length-2 c = put-length _ _ _ _ _ (c .before .before .put-some .ensures)
+
+returns-2 : tie.Need-returns-2
+returns-2 c = put-fitting _ _ _ _ _ _ (c .before .before .before .before .before .before .before .fitting .ensures) (c .before .before .put-some .ensures)
+
 slice-aggregate-put-many : tie.Need-slice-aggregate-put-many
-slice-aggregate-put-many c = sym (size (c .before .before .before))
+slice-aggregate-put-many c = sym (size (c .before .before .before .before))
 
 put-many-requires : tie.Need-put-many-requires
 put-many-requires c κs =
-    let f = c .before .before .before in
+    let f = c .before .before .before .before in
     omega (arith, size f, f .fitting .ensures)
 
-same-length-2 : tie.Need-same-length-2
-same-length-2 c = put-length _ _ _ _ _ (c .before .before .put-many .ensures)
+same-length-3 : tie.Need-same-length-3
+same-length-3 c = put-length _ _ _ _ _ (c .before .before .put-many .ensures)
 
-returns-2 : tie.Need-returns-2
-returns-2 c = put-fitting _ _ _ _ _ _ (c .before .before .before .before .before .before .fitting .ensures) (c .before .before .put-many .ensures)
+returns-3 : tie.Need-returns-3
+returns-3 c = put-fitting _ _ _ _ _ _ (c .before .before .before .before .before .before .before .fitting .ensures) (c .before .before .put-many .ensures)
 
 pub put-bytes-spec : {M : Type 1} → statement M
 put-bytes-spec =
@@ -52,7 +66,11 @@ put-bytes-spec =
     put-few-requires
     same-length
     returns
+    slice-aggregate-put-some
+    put-some-requires
+    same-length-2
+    returns-2
     slice-aggregate-put-many
     put-many-requires
-    same-length-2
-    returns-2)
+    same-length-3
+    returns-3)

@@ -1,6 +1,6 @@
 -- `judge`: the header decides, or leaves the answer to the options or to their absence.
 use Prim.Native.Nat.{_+_}
-use mathlib.Core.Path.{refl, sym, ap, _∙_}
+use mathlib.Core.Path.{sym, ap, _∙_}
 use denote.Ref.{now}
 use Rattle.refusal.specs.Answer.{Answer, given, onward}
 use Rattle.header.specs.Header.{rawRead}
@@ -43,7 +43,7 @@ slice-aggregate-walked : tie.Need-slice-aggregate-walked
 slice-aggregate-walked c = search needs
 
 walked-requires : tie.Need-walked-requires
-walked-requires c κs = let o = opened (c .before .before .before) in (o .inside, o .short, refl)
+walked-requires c κs = let o = opened (c .before .before .before) in (o .inside, o .short)
 
 returns : tie.Need-returns
 returns c = c .before .walked .ensures .0 ∙ sym (opened (c .before .before .before .before .before) .rest)

@@ -36,7 +36,7 @@ size-is c =
 loop-holds : tie.Need-loop-holds Inv-loop μ-loop
 loop-holds c =
     let s = c .before .before in
-    record { within = omega arith; few = s .pre .0 .3; short = s .pre .0 .1; counted = s .pre .1 .0; noted = s .pre .1 .1; putting = Flat.start _ _; left = record { left = refl; inside = s .pre .0 .0 } }
+    record { within = omega arith; few = s .pre .0 .3; roomy = s .pre .0 .4; short = s .pre .0 .1; counted = s .pre .1 .0; noted = s .pre .1 .1; putting = Flat.start _ _; left = record { left = refl; inside = s .pre .0 .0 } }
 
 mul-idx : tie.Need-mul-idx Inv-loop μ-loop
 mul-idx c = search needs

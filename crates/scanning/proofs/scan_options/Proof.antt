@@ -1,6 +1,6 @@
 -- `scan_options`: what the walk refuses is refused, and of what it finds good head and options are put, where there is room for both.
 use Prim.Native.Nat.{ℕ}
-use mathlib.Core.Path.{refl, sym, ap, subst, _∙_}
+use mathlib.Core.Path.{sym, ap, subst, _∙_}
 use native.Mathlib.Omega.{arith}
 use denote.Ref.{now}
 use lib.ListN.{length}
@@ -18,7 +18,7 @@ slice-aggregate-walked : tie.Need-slice-aggregate-walked
 slice-aggregate-walked c = search needs
 
 walked-requires : tie.Need-walked-requires
-walked-requires c κs = let o = c .before .before .before .pre in (o .inside, o .short, refl)
+walked-requires c κs = let o = c .before .before .before .pre in (o .inside, o .short)
 
 enum-known-e : tie.Need-enum-known-e
 enum-known-e c = search needs
@@ -59,7 +59,7 @@ put-options-requires c κs =
     let a = args .args in
     let g = judged-good k in
     let same = ap length (h .put-head .ensures) ∙ length-sets (now (a .out)) 0 (headIn (now (a .datagram)) (k .count .given .0 .1 .1 .0) (k .count .given .0 .0)) in
-    ((g .token, g .short, omega (arith, e .if1 .left, same), g .few), (g .count ∙ ap length (sym (g .records)), subst (λ (n : ℕ). Places n (optionsFrom (a .strict) (now (a .datagram)) n) (k .before .before .before .walked .last .1 .1 .1 .0)) (args .pre .is) (k .before .before .before .walked .ensures .1)))
+    ((g .token, g .short, omega (arith, e .if1 .left, same), g .few, omega (arith, g .few, k .before .before .before .walked .kept .1 .1 .1 .0)), (g .count ∙ ap length (sym (g .records)), subst (λ (n : ℕ). Places n (optionsFrom (a .strict) (now (a .datagram)) n) (k .before .before .before .walked .last .1 .1 .1 .0)) (args .pre .is) (k .before .before .before .walked .ensures .1)))
 
 returns-2 : tie.Need-returns-2
 returns-2 c =
