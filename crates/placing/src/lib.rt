@@ -66,7 +66,7 @@ pub fn put_run(out: &mut [u8], at: usize, bytes: &[u8]) -> usize
     put_piece(out, at, &bytes[..RUN])
 }
 
-// At most 16 bytes: two pieces of one length, which may overlap, so that the compiler knows how long each is.
+// At most 16 bytes: from four on two pieces of one length, which may overlap, so that the compiler knows how long each is.
 fn put_few(out: &mut [u8], at: usize, bytes: &[u8]) -> usize
     requires { ⌜ (length (now bytes) ≤ length (now out) - at) × (length (now bytes) ≤ 16) ⌝ }
     ensures { λ r. ⌜ Put (now (out .entry)) at (now (bytes .entry)) r (now (out .exit)) ⌝ }
@@ -77,13 +77,25 @@ fn put_few(out: &mut [u8], at: usize, bytes: &[u8]) -> usize
     if 4 <= bytes.len() {
         return put_ends(out, at, bytes, 4);
     }
-    if 2 <= bytes.len() {
-        return put_ends(out, at, bytes, 2);
-    }
     if 1 <= bytes.len() {
-        return put_ends(out, at, bytes, 1);
+        return put_three(out, at, bytes);
     }
     at
+}
+
+// One to three bytes: the first, the middle one and the last are all of them, and no branch depends on how many these are.
+fn put_three(out: &mut [u8], at: usize, bytes: &[u8]) -> usize
+    requires { ⌜ (length (now bytes) ≤ length (now out) - at) × (1 ≤ length (now bytes)) × (length (now bytes) ≤ 3) ⌝ }
+    ensures { λ r. ⌜ Put (now (out .entry)) at (now (bytes .entry)) r (now (out .exit)) ⌝ }
+{
+    let count = bytes.len();
+    let first = bytes[0];
+    let middle = bytes[count / 2];
+    let last = bytes[count - 1];
+    out[at] = first;
+    out[at + count / 2] = middle;
+    out[at + (count - 1)] = last;
+    at + count
 }
 
 // 17 to 64 bytes, in the same way.

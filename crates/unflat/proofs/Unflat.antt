@@ -12,8 +12,7 @@ use borrow.Author.Tests.{ltb-false}
 use Rattle.ground.proofs.Choice.{by-eq, neither, none-of, either-right}
 use Rattle.packet.specs.Packet.{none, recordsOf}
 use Rattle.packet.specs.declared.OptionRecord.{OptionRecord}
-use Rattle.packet.specs.declared.Packet.{Packet}
-use Rattle.unflat.specs.Unflat.{badHead, badRecord, badNumbers, badFrame, badFlat, headerIn, rangeAt, recordAt, recordsIn, packetIn}
+use Rattle.unflat.specs.Unflat.{badHead, badRecord, badNumbers, badFrame, badFlat, recordAt, recordsIn, packetIn}
 
 -- One bad record makes all bad.
 pub bad-by : (l : List ℕ) (n i : ℕ) → i < n → badRecord l (11 + 4 * i) ≡ true → badNumbers l n ≡ true
@@ -113,30 +112,15 @@ pub records-taken : (l : List ℕ) → recordsOf (packetIn l) ≡ recordsIn l (g
 unfolding packetIn
 records-taken l = take-at (recordsIn l (getD l 10 0)) (replicate (128 - getD l 10 0) none) (getD l 10 0) (records-length l (getD l 10 0))
 
--- One more record in the array.
-filled : (l : List ℕ) (records : List OptionRecord) (i : ℕ) → i < 128 → records ≡ recordsIn l i ++ replicate (128 - i) none
-    → set records i (recordAt l (11 + 4 * i)) ≡ recordsIn l (i + 1) ++ replicate (128 - (i + 1)) none
-filled l records i h e =
+-- The array of a packet as far as its first records, and one record more in it.
+abbrev pub upTo : List ℕ → ℕ → List OptionRecord
+upTo l i = recordsIn l i ++ replicate (128 - i) none
+
+pub one-more : (l : List ℕ) (records : List OptionRecord) (i : ℕ) → i < 128 → records ≡ upTo l i → set records i (recordAt l (11 + 4 * i)) ≡ upTo l (i + 1)
+one-more l records i h e =
     let left : 128 - i ≡ suc (128 - (i + 1)) = omega arith in
     let next : recordsIn l (i + 1) ≡ recordsIn l i ++ (recordAt l (11 + 4 * i) ∷ []) = rw (add-one i) in
     rw (e, left)
     (set-at (recordsIn l i) none (replicate (128 - (i + 1)) none) (recordAt l (11 + 4 * i)) i (records-length l i)
     ∙ (sym (append-assoc (recordsIn l i) (recordAt l (11 + 4 * i) ∷ []) (replicate (128 - (i + 1)) none))
     ∙ ap (λ (rs : List OptionRecord). rs ++ replicate (128 - (i + 1)) none) (sym next)))
-
--- The packet of a flat form as far as its first records.
-abbrev pub upTo : List ℕ → ℕ → Packet
-upTo l i =
-    record {
-      header = headerIn l;
-      token = rangeAt l 4;
-      count = getD l 10 0;
-      options = recordsIn l i ++ replicate (128 - i) none;
-      payload = rangeAt l 7;
-    }
-
-pub one-more : (l : List ℕ) (p : Packet) (i : ℕ) → i < 128 → p ≡ upTo l i
-    → record { header = p .header; token = p .token; count = p .count; options = set (p .options) i (recordAt l (11 + 4 * i)); payload = p .payload } ≡ upTo l (i + 1)
-one-more l p i h e =
-    let options = filled l (p .options) i h (ap (λ (q : Packet). q .options) e) in
-    λ j. record { header = e j .header; token = e j .token; count = e j .count; options = options j; payload = e j .payload }

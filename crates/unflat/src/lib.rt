@@ -114,7 +114,8 @@ fn bad_record(numbers: &[u32], at: usize) -> bool
     1 < numbers[at + 1]
 }
 
-// The packet of a flat form. Its records are put where they stay: an array of their own would be copied into it.
+// The packet of a flat form. Its records are put into an array of their own, which the compiler copies once; those that are put into
+// the packet it copies with the whole of it, and again into the answer.
 fn good_packet(numbers: &[u32]) -> Packet
     requires { ⌜ badFlat (now numbers) ≡ Bool.false ⌝ }
     ensures { λ r. ⌜ r ≡ packetIn (now (numbers .entry)) ⌝ }
@@ -123,20 +124,19 @@ fn good_packet(numbers: &[u32]) -> Packet
     let token = range_in(numbers, 4);
     let payload = range_in(numbers, 7);
     let count = numbers[10] as usize;
-    let mut packet = Packet {
+    let mut options = [OptionRecord::EMPTY; MAX_OPTIONS];
+    let mut i = 0;
+    while i < count {
+        options[i] = record_in(numbers, 11 + 4 * i);
+        i = i + 1;
+    }
+    Packet {
         header,
         token,
         count,
-        options: [OptionRecord::EMPTY; MAX_OPTIONS],
+        options,
         payload,
-    };
-    let mut i = 0;
-    while i < count {
-        let record = record_in(numbers, 11 + 4 * i);
-        packet.options[i] = record;
-        i = i + 1;
     }
-    packet
 }
 
 // The header of a flat form.

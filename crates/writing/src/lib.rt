@@ -106,8 +106,9 @@ pub fn to_bytes_in<'a>(
     }
 }
 
-// Puts the message at the start of the output: header and token, options, payload. The options are taken out and walked in
-// this function: in one of their own they would be copied again. A packet with no option is spared the copy.
+// Puts the message at the start of the output: header and token, options, payload. The options are taken out and walked in this
+// function, since one of their own would copy them again, and taken out before a byte is put: the compiler can't tell the output
+// from the packet, and would first copy the packet. One with no option is spared even that copy.
 fn put_message<'a>(
     out: &mut [u8],
     strict: bool,
@@ -125,12 +126,12 @@ fn put_message<'a>(
     let count = packet.count;
     let token_bytes = token.part(datagram, edits);
     let payload_bytes = payload.part(datagram, edits);
-    let first = taken(put_header(out, header, token_bytes));
     if count == 0 {
+        let first = taken(put_header(out, header, token_bytes));
         return first + taken(put_payload(out, first, payload_bytes));
     }
     let options = packet.options;
-    let mut next = first;
+    let mut next = taken(put_header(out, header, token_bytes));
     let mut before: u16 = 0;
     let mut i = 0;
     while i < count {

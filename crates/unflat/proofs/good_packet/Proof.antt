@@ -1,6 +1,6 @@
 -- `good_packet`: the records passed stand in the array's first places.
 use Prim.Native.Nat.{_-_, _≤_}
-use mathlib.Core.Path.{_≡_, ap, _∙_}
+use mathlib.Core.Path.{_≡_, refl, ap, _∙_}
 use native.Mathlib.Omega.{arith}
 use lib.ListN.{getD, replicate}
 use Rattle.packet.specs.Limits.{maxOptions}
@@ -11,10 +11,10 @@ use Rattle.unflat.proofs.good_packet.Statement.{statement}
 use Rattle.unflat.proofs.good_packet.Tie as tie
 
 abbrev Inv-loop : tie.InvT-loop
-Inv-loop numbers count packet₀ i₀ packet i = ((i ≤ count) × (count ≤ 128)) × (packet ≡ upTo numbers i)
+Inv-loop numbers header token payload count options₀ i₀ options i = ((i ≤ count) × (count ≤ 128)) × (options ≡ upTo numbers i)
 
 abbrev μ-loop : tie.MeasureT-loop
-μ-loop numbers count packet₀ i₀ packet i = count - i
+μ-loop numbers header token payload count options₀ i₀ options i = count - i
 
 header-in-requires : tie.Need-header-in-requires Inv-loop μ-loop
 header-in-requires c κs = let g = good _ (c .before .pre) in (g .head, g .fields)
@@ -32,18 +32,7 @@ cast-count : tie.Need-cast-count Inv-loop μ-loop
 cast-count c = omega (arith, small _ (good _ (c .before .before .before .before .before .pre) .fields) .count)
 
 loop-holds : tie.Need-loop-holds Inv-loop μ-loop
-loop-holds c =
-    let st = c .before .before .before .before .before in (
-      (omega arith, small _ (good _ (st .pre) .fields) .count),
-      λ j.
-          record {
-            header = c .before .before .before .header-in .ensures j;
-            token = c .before .before .range-in .ensures j;
-            count = getD (st .args .numbers .now) 10 0;
-            options = replicate maxOptions none;
-            payload = c .before .range-in2 .ensures j;
-          },
-    )
+loop-holds c = ((omega arith, small _ (good _ (c .before .before .before .before .before .pre) .fields) .count), refl)
 
 mul-record-in : tie.Need-mul-record-in Inv-loop μ-loop
 mul-record-in c = omega arith
@@ -56,11 +45,11 @@ record-in-requires c κs =
     let g = good _ (c .before .before .before .before .before .before .before .pre) in
     (omega (arith, g .records, c .loop-test .taken), good-record _ _ _ (g .numbers) (c .loop-test .taken))
 
-mul-record : tie.Need-mul-record Inv-loop μ-loop
-mul-record c = omega arith
+mul-options : tie.Need-mul-options Inv-loop μ-loop
+mul-options c = omega arith
 
-element-set-from-record : tie.Need-element-set-from-record Inv-loop μ-loop
-element-set-from-record c = omega arith
+array-set-from-options : tie.Need-array-set-from-options Inv-loop μ-loop
+array-set-from-options c = omega arith
 
 add-i : tie.Need-add-i Inv-loop μ-loop
 add-i c = omega arith
@@ -77,9 +66,18 @@ returns : tie.Need-returns Inv-loop μ-loop
 unfolding packetIn
 returns c =
     let s = c .before in
-    let l = s .before .before .before .before .before .before .args .numbers .now in
+    let read = s .before .before in
+    let l = read .before .before .before .before .args .numbers .now in
     let past : s .loop .i ≡ getD l 10 0 = omega arith in
-    s .loop .inv .1 ∙ ap (upTo l) past
+    let options = s .loop .inv .1 ∙ ap (upTo l) past in
+    λ j.
+    record {
+      header = read .before .before .header-in .ensures j;
+      token = read .before .range-in .ensures j;
+      count = getD l 10 0;
+      options = options j;
+      payload = read .range-in2 .ensures j;
+    }
 
 pub good-packet-spec : {M : Type 1} → statement M
 good-packet-spec =
@@ -96,8 +94,8 @@ good-packet-spec =
     mul-record-in
     add-record-in
     record-in-requires
-    mul-record
-    element-set-from-record
+    mul-options
+    array-set-from-options
     add-i
     loop-less
     loop-again
