@@ -11,6 +11,7 @@ pub fn check(name: &str, message: &Message) {
     let Message { datagram, flat, theirs } = message;
     assert_eq!(meaning_of_flat(flat, datagram), meaning(theirs), "{name}");
     assert_eq!(theirs.to_bytes_unlimited().unwrap(), *datagram, "{name}");
+    assert_eq!(message.made(), *theirs, "{name}: made");
     let mut numbers = [0; MOST_NUMBERS];
     assert_eq!(floor::read(datagram, &mut numbers), 0, "{name}");
     assert_eq!(numbers[..flat.len()], *flat, "{name}");
@@ -22,8 +23,9 @@ pub fn check(name: &str, message: &Message) {
         ("C", &|out| floor::write(flat, datagram, out)),
     ];
     for (writer, write) in writers {
-        let mut bytes = Room::new().bytes;
-        let length = write(&mut bytes) as usize;
+        let mut room = Room::new();
+        let bytes = room.out();
+        let length = write(bytes) as usize;
         assert_eq!(&bytes[..length], datagram, "{name}: {writer}");
     }
     #[cfg(libcoap)]

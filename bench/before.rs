@@ -34,8 +34,9 @@ fn read_by_both(datagram: Vec<u8>) -> (Vec<u8>, Vec<u32>) {
         &|out| before::copy(&datagram, out),
     ];
     for writer in writers {
-        let mut bytes = Room::new().bytes;
-        let length = writer(&mut bytes) as usize;
+        let mut room = Room::new();
+        let bytes = room.out();
+        let length = writer(bytes) as usize;
         assert_eq!(&bytes[..length], datagram);
     }
     (datagram, flat)
@@ -45,10 +46,10 @@ fn measure(name: &str, messages: &[(Vec<u8>, Vec<u32>)]) {
     let times = least(&[
         side(messages, |m, room| now::read(&m.0, &mut room.numbers)),
         side(messages, |m, room| before::read(&m.0, &mut room.numbers)),
-        side(messages, |m, room| now::write(&m.1, &m.0, &mut room.bytes)),
-        side(messages, |m, room| before::write(&m.1, &m.0, &mut room.bytes)),
-        side(messages, |m, room| now::copy(&m.0, &mut room.bytes)),
-        side(messages, |m, room| before::copy(&m.0, &mut room.bytes)),
+        side(messages, |m, room| now::write(&m.1, &m.0, room.out())),
+        side(messages, |m, room| before::write(&m.1, &m.0, room.out())),
+        side(messages, |m, room| now::copy(&m.0, room.out())),
+        side(messages, |m, room| before::copy(&m.0, room.out())),
     ]);
     let bytes: usize = messages.iter().map(|m| m.0.len()).sum();
     print!("{name:26}{:>8}", bytes / messages.len());

@@ -9,7 +9,7 @@ mod messages;
 mod tables;
 mod turns;
 
-use coap_lite::Packet;
+use coap_lite::{CoapOption, Packet};
 use exported::now;
 #[cfg(libcoap)]
 use linked::libcoap;
@@ -31,6 +31,19 @@ impl Message {
         flat.truncate(11 + 4 * flat[10] as usize);
         let theirs = Packet::from_bytes(&datagram).unwrap();
         Message { datagram, flat, theirs }
+    }
+
+    /// coap-lite's packet of the flat form: the header as it is, and the rest by the calls that a program makes for it.
+    fn made(&self) -> Packet {
+        let part = |range: &[u32]| self.datagram[range[0] as usize..][..range[1] as usize].to_vec();
+        let mut packet = Packet::new();
+        packet.header = self.theirs.header.clone();
+        packet.set_token(part(&self.flat[5..7]));
+        for record in self.flat[11..].chunks(4) {
+            packet.add_option(CoapOption::from(record[0] as u16), part(&record[2..]));
+        }
+        packet.payload = part(&self.flat[8..10]);
+        packet
     }
 }
 
@@ -67,6 +80,7 @@ fn main() {
         ("builder", "coap-lite"),
         ("builder", "libcoap"),
         ("builder", "C"),
+        ("packet", "coap-lite made"),
     ];
     let tables = [
         timed_table(markdown, "read", &cases, readers, &read),
@@ -91,20 +105,23 @@ fn readers(messages: &[Message]) -> Sides<'_> {
 }
 
 fn writers(messages: &[Message]) -> Sides<'_> {
-    let mut sides: Sides = vec![("coap-lite", side(messages, |m, _| m.theirs.to_bytes_unlimited()))];
+    let mut sides: Sides = vec![
+        ("coap-lite", side(messages, |m, _| m.theirs.to_bytes_unlimited())),
+        ("coap-lite made", side(messages, |m, _| m.made().to_bytes_unlimited())),
+    ];
     #[cfg(libcoap)]
     sides.push(("libcoap", side(messages, |m, _| libcoap::write(&m.flat, &m.datagram))));
-    sides.push(("C", side(messages, |m, room| floor::write(&m.flat, &m.datagram, &mut room.bytes))));
-    sides.push(("packet", side(messages, |m, room| timed::packet_write(&m.flat, &m.datagram, &mut room.bytes))));
-    sides.push(("flat", side(messages, |m, room| now::write(&m.flat, &m.datagram, &mut room.bytes))));
-    sides.push(("builder", side(messages, |m, room| timed::builder(&m.flat, &m.datagram, &mut room.bytes))));
+    sides.push(("C", side(messages, |m, room| floor::write(&m.flat, &m.datagram, room.out()))));
+    sides.push(("packet", side(messages, |m, room| timed::packet_write(&m.flat, &m.datagram, room.out()))));
+    sides.push(("flat", side(messages, |m, room| now::write(&m.flat, &m.datagram, room.out()))));
+    sides.push(("builder", side(messages, |m, room| timed::builder(&m.flat, &m.datagram, room.out()))));
     sides
 }
 
 fn copiers(messages: &[Message]) -> Sides<'_> {
     vec![
         ("coap-lite", side(messages, |m, _| Packet::from_bytes(&m.datagram).map(|packet| packet.to_bytes_unlimited()))),
-        ("flat", side(messages, |m, room| now::copy(&m.datagram, &mut room.bytes))),
+        ("flat", side(messages, |m, room| now::copy(&m.datagram, room.out()))),
     ]
 }
 

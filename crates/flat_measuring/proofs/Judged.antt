@@ -1,11 +1,11 @@
 -- Numbers that are judged where they stand: what makes them bad, and what is known of those that are not.
-use Prim.Native.Nat.{ℕ, _+_, _*_, _<_}
+use Prim.Native.Nat.{ℕ, _+_, _*_, _≤_, _<_}
 use mathlib.Core.Path.{_≡_, refl, sym, _∙_}
 use mathlib.Core.Bool.{Bool, true, false}
 use mathlib.Core.List.{List}
-use lib.ListN.{getD}
+use lib.ListN.{length, getD}
 use lib.Dec.{ltb}
-use borrow.Author.Tests.{le-ltb}
+use borrow.Author.Tests.{le-ltb, ltb-false}
 use Rattle.ground.specs.Choice.{either}
 use Rattle.ground.proofs.Choice.{on, neither, none-of, either-right}
 use Rattle.refusal.specs.Answer.{Answer, given, refused, onward}
@@ -21,8 +21,16 @@ use Rattle.measuring.specs.declared.Limit.the-variants.{Unlimited}
 use Rattle.measuring.proofs.Sizes.{measured-bad, measured-good}
 use Rattle.unflat.specs.Unflat.{badRecord, badNumbers, badFrame, badFlat, headerIn, rangeAt, recordAt, packetIn, unflat}
 use Rattle.unflat.proofs.Unflat.{bad-by, framed, small}
-use Rattle.flat_measuring.specs.FlatMeasuring.{judgingIn, measuredIn, badStart, badNext, Sound}
+use Rattle.flat_measuring.specs.FlatMeasuring.{judgingIn, measuredIn, cutShort, badStart, badNext, Sound}
 use Rattle.flat_measuring.proofs.Records.{here}
+
+-- Numbers that are not cut short: those of a head, at most 128 records, and the numbers of all of them.
+pub long-enough : (l : List ℕ) → cutShort l ≡ false → (11 ≤ length l) × (getD l 10 0 ≤ 128) × (11 + 4 * getD l 10 0 ≤ length l)
+unfolding cutShort
+long-enough l e =
+    let a = neither (ltb (length l) 11) _ e in
+    let b = neither (ltb 128 (getD l 10 0)) (ltb (length l) (11 + 4 * getD l 10 0)) (a .1) in
+    (ltb-false _ _ (a .0), ltb-false _ _ (b .0), ltb-false _ _ (b .1))
 
 module _ (lengths : Lengths) (l : List ℕ) where
   -- One bad thing is enough for 11, in the numbers or in their packet.
@@ -37,6 +45,17 @@ module _ (lengths : Lengths) (l : List ℕ) where
   pub frame-bad : badFrame l ≡ true → judged BadRecord ≡ judgingIn lengths l
   unfolding badFlat
   frame-bad e = not-flat (rw e)
+
+  pub short-bad : cutShort l ≡ true → judged BadRecord ≡ judgingIn lengths l
+  unfolding cutShort
+  short-bad e = frame-bad (go (badFrame l) refl)
+    where
+      go : (t : Bool) → badFrame l ≡ t → badFrame l ≡ true
+      go true q = q
+      go false q =
+          let f = framed l q in
+          let short : true ≡ false = sym e ∙ rw (le-ltb (length l) 11 (f .head), le-ltb 128 (getD l 10 0) (small l (f .fields) .count), le-ltb (length l) (11 + 4 * getD l 10 0) (f .records)) in
+          cc
 
   pub start-bad : badStart lengths l ≡ true → judged BadRecord ≡ judgingIn lengths l
   unfolding badPacket packetIn headerIn

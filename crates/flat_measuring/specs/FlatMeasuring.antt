@@ -1,12 +1,13 @@
 -- What the numbers of a flat form are judged by, and what they answer when they are written.
-use Prim.Native.Nat.{ℕ}
+use Prim.Native.Nat.{ℕ, _+_, _*_}
 use mathlib.Core.Path.{_≡_}
 use mathlib.Core.Bool.{Bool, false, not}
 use mathlib.Core.List.{List}
-use lib.ListN.{getD}
+use lib.ListN.{length, getD}
 use lib.Dec.{ltb, eqb}
 use Rattle.ground.specs.Choice.{pick, both, either}
 use Rattle.refusal.specs.Answer.{Answer, refused, onward}
+use Rattle.packet.specs.Limits.{maxOptions}
 use Rattle.packet.specs.Packet.{nowhere}
 use Rattle.packet.specs.declared.Range.{Range}
 use Rattle.judging.specs.Judge.{tooLong, badValue, badRanges, badPacket, judging}
@@ -23,6 +24,10 @@ measuredIn strict room lengths l = onward (pick (tooLong lengths) (refused 10) (
 -- The judgement of numbers: 11 where they are no flat form or their packet is bad, else the size of the options.
 unfoldable pub judgingIn : Lengths → List ℕ → Answer ℕ
 judgingIn lengths l = onward (unflat l) (judging lengths)
+
+-- Numbers too few for the 11 of a head, or for the records that it counts, or a count over 128.
+unfoldable pub cutShort : List ℕ → Bool
+cutShort l = either (ltb (length l) 11) (either (ltb maxOptions (getD l 10 0)) (ltb (length l) (11 + 4 * getD l 10 0)))
 
 -- What makes a packet bad before its records: a version over 3, a token or a payload outside its store, or a token over 15 bytes.
 abbrev pub badStart : Lengths → List ℕ → Bool

@@ -3,6 +3,7 @@
 use judging::Judged;
 use judging::Lengths;
 use judging::extension_size;
+use packet::limits::MAX_OPTIONS;
 use packet::limits::MAX_TOKEN;
 use packet::limits::MAX_VALUE;
 use refusal::Outcome;
@@ -17,7 +18,7 @@ ghost use Rattle.packet.specs.Packet.{recordsOf};
 ghost use Rattle.judging.specs.Judge.{lengthIn, outside, optionSize, optionsSize, judged};
 ghost use Rattle.measuring.specs.Measuring.{markerSize, emptyCarries, strictly, sizeFitted, writtenSize};
 ghost use Rattle.unflat.specs.Unflat.{homeOf, recordAt, packetIn};
-ghost use Rattle.flat_measuring.specs.FlatMeasuring.{measuredIn, judgingIn, badStart, badNext, dropped, sentIn};
+ghost use Rattle.flat_measuring.specs.FlatMeasuring.{measuredIn, judgingIn, cutShort, badStart, badNext, dropped, sentIn};
 
 // The answer of writing the packet of a flat form, without a limit, over stores of the given lengths and into an output with this
 // much room.
@@ -36,14 +37,12 @@ pub fn measured(strict: bool, numbers: &[u32], lengths: Lengths, room: usize) ->
     }
 }
 
-// One walk over the records judges their numbers and counts what they take.
+// One walk over the records judges their numbers and counts what they take. The head is judged behind it: read before, its numbers
+// would be kept for the message's first bytes, in registers that the walk needs.
 fn judge(numbers: &[u32], lengths: Lengths) -> Judged
     ensures { λ r. ⌜ judged r ≡ judgingIn lengths (now (numbers .entry)) ⌝ }
 {
-    if unflat::bad_frame(numbers) {
-        return Judged::BadRecord;
-    }
-    if bad_start(numbers, lengths) {
+    if cut_short(numbers) {
         return Judged::BadRecord;
     }
     let count = numbers[10] as usize;
@@ -59,7 +58,26 @@ fn judge(numbers: &[u32], lengths: Lengths) -> Judged
         before = numbers[at];
         i = i + 1;
     }
+    if unflat::bad_frame(numbers) {
+        return Judged::BadRecord;
+    }
+    if bad_start(numbers, lengths) {
+        return Judged::BadRecord;
+    }
     Judged::OptionsSize(size)
+}
+
+// Whether numbers are too few for a head, or for the records that it counts, or it counts too many.
+fn cut_short(numbers: &[u32]) -> bool
+    ensures { λ r. ⌜ r ≡ cutShort (now (numbers .entry)) ⌝ }
+{
+    if numbers.len() < 11 {
+        return true;
+    }
+    if (MAX_OPTIONS as u32) < numbers[10] {
+        return true;
+    }
+    numbers.len() < 11 + 4 * numbers[10] as usize
 }
 
 // Whether the version, the token or the payload makes the packet bad.

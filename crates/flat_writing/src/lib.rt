@@ -9,6 +9,7 @@ use laying::is_short;
 use laying::nibble;
 use laying::put_option;
 use laying::put_payload;
+use placing::RUN;
 use placing::put_bytes;
 use placing::put_run;
 use refusal::Written;
@@ -145,13 +146,13 @@ fn put_option_in(
 fn is_loose(len: usize, held: usize, room: usize) -> bool
     ensures { λ r. ⌜ r ≡ both (leb len 32) (both (leb 32 held) (leb 37 room)) ⌝ }
 {
-    if 32 < len {
+    if RUN < len {
         return false;
     }
-    if held < 32 {
+    if held < RUN {
         return false;
     }
-    37 <= room
+    5 + RUN <= room
 }
 
 // Puts an option whose value is the first of the bytes that are lent. As many are put for every value, so that no branch depends on

@@ -12,7 +12,7 @@ ghost use Rattle.placing.specs.Put.{Puts, Put};
 const PIECE: usize = 32768;
 
 // How many bytes a run has.
-const RUN: usize = 32;
+pub const RUN: usize = 32;
 
 // Puts one byte.
 pub fn put_byte(out: &mut [u8], at: usize, byte: u8) -> usize
@@ -98,7 +98,7 @@ fn put_three(out: &mut [u8], at: usize, bytes: &[u8]) -> usize
     at + count
 }
 
-// 17 to 64 bytes, in the same way.
+// 17 to 64 bytes, by two pieces of one length, as `put_few` does.
 fn put_some(out: &mut [u8], at: usize, bytes: &[u8]) -> usize
     requires { ⌜ (length (now bytes) ≤ length (now out) - at) × (16 ≤ length (now bytes)) × (length (now bytes) ≤ 64) ⌝ }
     ensures { λ r. ⌜ Put (now (out .entry)) at (now (bytes .entry)) r (now (out .exit)) ⌝ }

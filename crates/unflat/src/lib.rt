@@ -12,7 +12,7 @@ use refusal::Refusal;
 ghost use mathlib.Core.Path.{_≡_};
 ghost use mathlib.Core.Bool.{Bool};
 ghost use Prim.Native.Nat.{_+_, _*_, _≤_};
-ghost use lib.ListN.{length};
+ghost use lib.ListN.{length, getD};
 ghost use Rattle.refusal.specs.Answer.{beside};
 ghost use Rattle.packet.specs.Packet.{newPacket};
 ghost use Rattle.unflat.specs.Unflat.{badHead, badRecord, badNumbers, badFrame, badFlat, headerIn, homeOf, rangeAt, recordAt, packetIn, unflat, taken};
@@ -31,6 +31,12 @@ pub fn packet_in(numbers: &[u32]) -> Taken
         return Taken {
             outcome: Outcome::Refused(Refusal::BadRecord),
             packet: Packet::new(),
+        };
+    }
+    if numbers[10] == 0 {
+        return Taken {
+            outcome: Outcome::Done,
+            packet: bare_packet(numbers),
         };
     }
     Taken {
@@ -112,6 +118,20 @@ fn bad_record(numbers: &[u32], at: usize) -> bool
         return true;
     }
     1 < numbers[at + 1]
+}
+
+// The packet of a flat form that has no records. The compiler clears its array where the answer stands, and copies none.
+fn bare_packet(numbers: &[u32]) -> Packet
+    requires { ⌜ (badFlat (now numbers) ≡ Bool.false) × (getD (now numbers) 10 0 ≡ 0) ⌝ }
+    ensures { λ r. ⌜ r ≡ packetIn (now (numbers .entry)) ⌝ }
+{
+    Packet {
+        header: header_in(numbers),
+        token: range_in(numbers, 4),
+        count: 0,
+        options: [OptionRecord::EMPTY; MAX_OPTIONS],
+        payload: range_in(numbers, 7),
+    }
 }
 
 // The packet of a flat form. Its records are put into an array of their own, which the compiler copies once; those that are put into

@@ -2,9 +2,7 @@
 use Prim.Native.Nat.{_-_, _≤_}
 use mathlib.Core.Path.{_≡_, refl, ap, _∙_}
 use native.Mathlib.Omega.{arith}
-use lib.ListN.{getD, replicate}
-use Rattle.packet.specs.Limits.{maxOptions}
-use Rattle.packet.specs.Packet.{none}
+use lib.ListN.{getD}
 use Rattle.unflat.specs.Unflat.{packetIn}
 use Rattle.unflat.proofs.Unflat.{good, small, good-record, upTo, one-more}
 use Rattle.unflat.proofs.good_packet.Statement.{statement}
