@@ -51,7 +51,7 @@ fn take_piece(kept: Kept, input: &mut [u8]) -> Kept {
     let full = waiting + count;
     let kept = pieces::answer(kept, part(input, 0, full));
     let taken = kept.waiting;
-    let waiting = moved_to_front(input, taken, full);
+    let waiting = moving::move_to_front(input, taken, full);
     if waiting < input.len() {
         return Kept {
             waiting,
@@ -64,23 +64,6 @@ fn take_piece(kept: Kept, input: &mut [u8]) -> Kept {
         cut: true,
         more: kept.more,
     }
-}
-
-// Moves what stands between two positions to the front, and answers how much that is.
-fn moved_to_front(input: &mut [u8], start: usize, end: usize) -> usize {
-    if end < start {
-        return 0;
-    }
-    if input.len() < end {
-        return 0;
-    }
-    let count = end - start;
-    let mut i = 0;
-    while i < count {
-        input[i] = input[start + i];
-        i = i + 1;
-    }
-    count
 }
 
 // At the end of the input: a last line that has no newline gets one.

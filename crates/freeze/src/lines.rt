@@ -91,7 +91,7 @@ fn settled(walk: Walk, window: &mut [u8], count: usize, ended: bool) -> Walk {
     if is_stuck(walk, ended) {
         return walk.refusing(Refusal::BadText);
     }
-    let waiting = reread::moved_to_front(window, walk.waiting, count);
+    let waiting = moving::move_to_front(window, walk.waiting, count);
     walk.leaving(waiting, ended)
 }
 

@@ -1,11 +1,12 @@
--- Laws of parts: bytes of a part are bytes; the kit's `sets` for what stands in an output piece by piece; and parts of that output.
+-- Laws of parts: bytes of a part are bytes, and a part of a part is a part; the kit's `sets` for what stands in an output piece by
+-- piece; and parts of that output.
 use Prim.Native.Nat.{ℕ, zero, suc, _+_, _-_, _<_, _≤_}
 use mathlib.Core.Path.{_≡_, refl, sym, _∙_, ap}
 use mathlib.Core.List.{List, [], _∷_, _++_, append-assoc}
 use native.Mathlib.Nat.{add-zero, zero-add, add-suc, suc-add}
 use native.Mathlib.Omega.{arith}
 use lib.ListN.{length, take, drop, getD, set}
-use lib.Seq.{sets, sets-eq, drop-set-lt, drop-set-add, take-set-le, take-at, drop-at, length-take-le}
+use lib.Seq.{sets, sets-eq, take-take, drop-drop, drop-set-lt, drop-set-add, take-set-le, take-at, drop-at, length-take-le}
 use Rattle.ground.specs.Part.{part, Bytes}
 
 pub bytes-take : (n : ℕ) (s : List ℕ) → Bytes s → Bytes (take n s)
@@ -31,6 +32,16 @@ byte-at (x ∷ s) (suc i) b = byte-at s i (b .1)
 pub bytes-of : (s : List ℕ) → ((i : ℕ) → getD s i 0 < 256) → Bytes s
 bytes-of [] f = tt
 bytes-of (x ∷ s) f = (f 0, bytes-of s (λ i. f (suc i)))
+
+-- A part of a part.
+part-in : (n i k : ℕ) (l : List ℕ) → i + k ≤ n → part (take n l) i k ≡ part l i k
+part-in n zero k l h = take-take k n l (omega arith)
+part-in zero (suc i) k l h = absurd (omega arith)
+part-in (suc n) (suc i) k [] h = refl
+part-in (suc n) (suc i) k (x ∷ l) h = part-in n i k l (omega arith)
+
+pub part-part : (s : List ℕ) (p n i k : ℕ) → i + k ≤ n → part (part s p n) i k ≡ part s (p + i) k
+part-part s p n i k h = part-in n i k (drop p s) h ∙ ap (take k) (drop-drop i p s)
 
 -- Two pieces put one after the other are one piece.
 pub sets-append : (l : List ℕ) (i : ℕ) (vs ws : List ℕ) → sets l i (vs ++ ws) ≡ sets (sets l i vs) (i + length vs) ws

@@ -1,31 +1,21 @@
 -- An entry that was put into a table is read again, and the other places stay.
 use Prim.Native.Nat.{ℕ, zero, suc, _+_, _*_, _<_, _≤_}
 use mathlib.Core.Path.{_≡_, refl, sym, ap, _∙_}
-use mathlib.Core.List.{List, [], _∷_, _++_}
+use mathlib.Core.List.{List, _++_}
 use native.Mathlib.Nat.{add-zero}
 use native.Mathlib.Omega.{arith}
 use lib.Dec.{eqb}
 use lib.ListN.{length, take, drop, getD, set, length-append}
-use lib.Seq.{sets, take-take, take-at, drop-at, drop-drop, drop-append-add, getD-take, getD-drop}
+use lib.Seq.{sets, take-at, drop-at, drop-append-add, getD-take, getD-drop}
 use borrow.Author.Tests.{eq-eqb, ne-eqb}
 use Rattle.ground.specs.Choice.{pick}
 use Rattle.ground.specs.Part.{part}
 use Rattle.ground.proofs.Choice.{by-eq}
-use Rattle.ground.proofs.Part.{part-before, part-after, part-put}
+use Rattle.ground.proofs.Part.{part-part, part-before, part-after, part-put}
 use Rattle.rfc.specs.Uint.{number}
 use Rattle.rfc.specs.Duplicates.{Arrival}
 use Rattle.hearing.specs.Table.{Place, unused, holds}
 use Rattle.hearing.specs.Bytes.{placeAt, placesFrom, twoBytes, fourBytes, entryBytes}
-
--- A part of a part.
-part-in : (n i k : ℕ) (l : List ℕ) → i + k ≤ n → take k (drop i (take n l)) ≡ take k (drop i l)
-part-in n zero k l h = take-take k n l (omega arith)
-part-in zero (suc i) k l h = absurd (omega arith)
-part-in (suc n) (suc i) k [] h = refl
-part-in (suc n) (suc i) k (x ∷ l) h = part-in n i k l (omega arith)
-
-part-part : (s : List ℕ) (p n i k : ℕ) → i + k ≤ n → part (part s p n) i k ≡ part s (p + i) k
-part-part s p n i k h = part-in n i k (drop p s) h ∙ ap (take k) (drop-drop i p s)
 
 -- A place is made of its bytes: the first, the peer's, the id's and the time's.
 placeFrom : ℕ → List ℕ → List ℕ → List ℕ → Place

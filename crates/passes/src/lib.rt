@@ -75,6 +75,6 @@ fn take_window(
         filled.ended,
         out,
     );
-    let waiting = reread::moved_to_front(window, walk.waiting, count);
+    let waiting = moving::move_to_front(window, walk.waiting, count);
     walk.leaving(waiting, filled.ended)
 }

@@ -127,10 +127,6 @@ fn put_peer_line(message: &[u8], out: &mut [u8], place: usize) -> usize {
 // The peer of a message, which stands behind its first byte.
 fn peer_of(message: &[u8]) -> [u8; 18] {
     let mut peer = [0u8; 18];
-    let mut i = 0;
-    while i < 18 {
-        peer[i] = words::byte_at(message, i + 1);
-        i = i + 1;
-    }
+    put_bytes(&mut peer, 0, part(message, 1, 19));
     peer
 }

@@ -1,8 +1,7 @@
--- A copy: byte by byte by way of an array, by its two ends, by three bytes, in pieces, and cut to the room.
-use Prim.Native.Nat.{ℕ, suc, _+_, _-_, _*_, _/_, _<_, _≤_, min}
+-- A copy: byte by byte by way of an array, by its two ends, in pieces, and cut to the room.
+use Prim.Native.Nat.{ℕ, suc, _+_, _-_, _*_, _<_, _≤_, min}
 use mathlib.Core.Path.{_≡_, refl, sym, ap, _∙_}
 use mathlib.Core.List.{List, [], _∷_, _++_}
-use native.Mathlib.Nat.{add-zero}
 use native.Mathlib.Numerals.{add-one}
 use native.Mathlib.Omega.{arith}
 use borrow.Author.Count.{below-more}
@@ -89,15 +88,6 @@ ends-whole l m n at bytes half a r h k p q =
       next = q .next ∙ (ap (λ (x : List ℕ). at + last + length x) rest ∙ omega (arith, size));
       out = q .out ∙ (ap (sets m (at + last)) rest ∙ (ap (λ (x : List ℕ). sets x (at + last) (drop last bytes)) (p .out) ∙ ends-put l at bytes half last (omega arith) h));
     }
-
--- Of one to three bytes the first, the middle one and the last are all.
-pub three-put : (l : List ℕ) (at : ℕ) (bytes : List ℕ) → 1 ≤ length bytes → length bytes ≤ 3
-    → Put l at bytes (at + length bytes) (set (set (set l at (getD bytes 0 0)) (at + length bytes / 2) (getD bytes (length bytes / 2) 0)) (at + (length bytes - 1)) (getD bytes (length bytes - 1) 0))
-three-put l at [] h k = absurd (omega arith)
-three-put l at (a ∷ []) h k = record { next = refl; out = rw add-zero (ap (λ (m : List ℕ). set m at a) (set-set l at a a) ∙ set-set l at a a) }
-three-put l at (a ∷ b ∷ []) h k = record { next = refl; out = rw add-one (set-set (set l at a) (suc at) b b) }
-three-put l at (a ∷ b ∷ c ∷ []) h k = record { next = refl; out = rw add-one (let e : at + 2 ≡ suc (suc at) = omega arith in rw e) }
-three-put l at (a ∷ b ∷ c ∷ d ∷ bytes) h k = absurd (omega arith)
 
 -- As many first bytes as there is room for are what fits of them.
 take-min : (n : ℕ) (bytes : List ℕ) → take (min n (length bytes)) bytes ≡ take n bytes

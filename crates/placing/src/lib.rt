@@ -7,9 +7,9 @@ ghost use lib.ListN.{length, take};
 ghost use Rattle.rfc.specs.Uint.{uint};
 ghost use Rattle.placing.specs.Put.{Puts, Put};
 
-// How many bytes a copy holds at a time: each piece is a move of memory, and a longest payload takes a twentieth more by sixteen of
-// them than by two. A compiler that kept the array would need as many bytes of the stack.
-const PIECE: usize = 32768;
+// How many bytes a copy holds at a time. The compiler makes one move of memory of each piece, and no array; one that kept the array
+// would need as many bytes of the stack.
+const PIECE: usize = 4096;
 
 // How many bytes a run has.
 pub const RUN: usize = 32;
@@ -66,7 +66,7 @@ pub fn put_run(out: &mut [u8], at: usize, bytes: &[u8]) -> usize
     put_piece(out, at, &bytes[..RUN])
 }
 
-// At most 16 bytes: from four on two pieces of one length, which may overlap, so that the compiler knows how long each is.
+// At most 16 bytes: two pieces of one length, which may overlap, so that the compiler knows how long each is.
 fn put_few(out: &mut [u8], at: usize, bytes: &[u8]) -> usize
     requires { ⌜ (length (now bytes) ≤ length (now out) - at) × (length (now bytes) ≤ 16) ⌝ }
     ensures { λ r. ⌜ Put (now (out .entry)) at (now (bytes .entry)) r (now (out .exit)) ⌝ }
@@ -77,25 +77,13 @@ fn put_few(out: &mut [u8], at: usize, bytes: &[u8]) -> usize
     if 4 <= bytes.len() {
         return put_ends(out, at, bytes, 4);
     }
+    if 2 <= bytes.len() {
+        return put_ends(out, at, bytes, 2);
+    }
     if 1 <= bytes.len() {
-        return put_three(out, at, bytes);
+        return put_ends(out, at, bytes, 1);
     }
     at
-}
-
-// One to three bytes: the first, the middle one and the last are all of them, and no branch depends on how many these are.
-fn put_three(out: &mut [u8], at: usize, bytes: &[u8]) -> usize
-    requires { ⌜ (length (now bytes) ≤ length (now out) - at) × (1 ≤ length (now bytes)) × (length (now bytes) ≤ 3) ⌝ }
-    ensures { λ r. ⌜ Put (now (out .entry)) at (now (bytes .entry)) r (now (out .exit)) ⌝ }
-{
-    let count = bytes.len();
-    let first = bytes[0];
-    let middle = bytes[count / 2];
-    let last = bytes[count - 1];
-    out[at] = first;
-    out[at + count / 2] = middle;
-    out[at + (count - 1)] = last;
-    at + count
 }
 
 // 17 to 64 bytes, by two pieces of one length, as `put_few` does.
@@ -137,7 +125,7 @@ fn put_many(out: &mut [u8], at: usize, bytes: &[u8]) -> usize
 // Where a piece ends that starts here.
 fn piece_end(start: usize, count: usize) -> usize
     requires { ⌜ start < count ⌝ }
-    ensures { λ r. ⌜ (start < r) × (r ≤ count) × (r ≤ start + 32768) ⌝ }
+    ensures { λ r. ⌜ (start < r) × (r ≤ count) × (r ≤ start + 4096) ⌝ }
 {
     if count - start <= PIECE {
         return count;
@@ -148,7 +136,7 @@ fn piece_end(start: usize, count: usize) -> usize
 // A copy by way of an array of this function's own: all bytes are read before the first is written, so that the compiler needs
 // no test for overlap, and makes one move of memory of both loops and the array.
 fn put_piece(out: &mut [u8], at: usize, bytes: &[u8]) -> usize
-    requires { ⌜ (at + length (now bytes) ≤ length (now out)) × (length (now bytes) ≤ 32768) ⌝ }
+    requires { ⌜ (at + length (now bytes) ≤ length (now out)) × (length (now bytes) ≤ 4096) ⌝ }
     ensures { λ r. ⌜ Put (now (out .entry)) at (now (bytes .entry)) r (now (out .exit)) ⌝ }
 {
     let count = bytes.len();

@@ -178,7 +178,7 @@ pub fn viewed(fd: i32, window: &mut [u8], view: View, least: usize) -> View {
     if view.has(least) {
         return view;
     }
-    let waiting = moved_to_front(window, view.start, view.end);
+    let waiting = moving::move_to_front(window, view.start, view.end);
     let filled = fill(fd, window, waiting);
     View {
         start: 0,
@@ -187,21 +187,4 @@ pub fn viewed(fd: i32, window: &mut [u8], view: View, least: usize) -> View {
         failed: filled.failed,
         windows: std::num::wrapping_add_u64(view.windows, 1),
     }
-}
-
-// Moves what stands between two positions to the front, and answers how much that is.
-pub fn moved_to_front(window: &mut [u8], start: usize, end: usize) -> usize {
-    if end < start {
-        return 0;
-    }
-    if window.len() < end {
-        return 0;
-    }
-    let count = end - start;
-    let mut i = 0;
-    while i < count {
-        window[i] = window[start + i];
-        i = i + 1;
-    }
-    count
 }

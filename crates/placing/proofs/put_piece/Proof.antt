@@ -9,7 +9,7 @@ use Rattle.placing.proofs.put_piece.Statement.{statement}
 use Rattle.placing.proofs.put_piece.Tie as tie
 
 abbrev Inv-loop : tie.InvT-loop
-Inv-loop out at bytes count held₀ i₀ held i = (i ≤ count) × (length held ≡ 32768) × ((k : ℕ) → k < i → getD held k 0 ≡ getD bytes k 0)
+Inv-loop out at bytes count held₀ i₀ held i = (i ≤ count) × (length held ≡ 4096) × ((k : ℕ) → k < i → getD held k 0 ≡ getD bytes k 0)
 
 abbrev μ-loop : tie.MeasureT-loop
 μ-loop out at bytes count held₀ i₀ held i = count - i
@@ -25,7 +25,7 @@ kept : (c : tie.At-loop2 Inv-loop μ-loop Inv-loop2 μ-loop2) → length (c .loo
 kept c = ap length (c .loop2 .inv .2) ∙ length-sets (c .before .before .before .args .out .now) (c .before .before .before .args .at) (take (c .loop2 .j) (c .before .before .before .args .bytes .now))
 
 loop-holds : tie.Need-loop-holds Inv-loop μ-loop Inv-loop2 μ-loop2
-loop-holds c = (omega arith, length-replicate {A = ℕ} 32768 0, λ k l. absurd (omega (arith, l)))
+loop-holds c = (omega arith, length-replicate {A = ℕ} 4096 0, λ k l. absurd (omega (arith, l)))
 
 shared-slice-read-held : tie.Need-shared-slice-read-held Inv-loop μ-loop Inv-loop2 μ-loop2
 shared-slice-read-held c = omega arith
