@@ -1,4 +1,5 @@
 // Answers requests: reads them on standard input, one to a line, and writes one answer to a line to standard output.
+#![tactic(auto)]
 use libc::STDIN_FILENO;
 use pieces::Kept;
 use words::part;

@@ -7,7 +7,7 @@ use telling::Told;
 use words::{NOWHERE, part};
 
 // What goes on from one piece of the input to the next.
-#[derive(Drop)]
+#[derive(Clone, Copy)]
 pub struct Kept {
     // How many bytes of a line wait at the start of the input for their newline.
     pub waiting: usize,

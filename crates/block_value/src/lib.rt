@@ -1,4 +1,5 @@
 // The value of a Block option, plain as deployed peers have it and strict as RFC 7959 has it.
+#![tactic(auto)]
 ghost use Rattle.std.specs.Prelude.{◌≡◌, ◌<◌, length};
 ghost use Rattle.rfc.specs.Block.{block_number, block_of, block_bytes};
 ghost use Rattle.ground.specs.Table.{listed};
@@ -12,7 +13,7 @@ use option_value::{OptionValueU16, Uint, option_from_uint, option_to_uint};
 use refusal::{Refusal, Written};
 
 // The block option value. A strict number has 20 bits, a plain one at most 16.
-#[derive(Drop)]
+#[derive(Clone, Copy)]
 pub struct BlockValue {
     pub num: u32,
     pub more: bool,
@@ -20,21 +21,21 @@ pub struct BlockValue {
 }
 
 // A block that was built; or why there is none.
-#[derive(Drop)]
+#[derive(Clone, Copy)]
 pub enum BlockBuilt {
     Block(BlockValue),
     Refused(Refusal),
 }
 
 // A block that was read, and how many leading zero bytes its value has; or why there is none.
-#[derive(Drop)]
+#[derive(Clone, Copy)]
 pub enum BlockRead {
     Block { block: BlockValue, zeros: usize },
     Refused(Refusal),
 }
 
 // The size of a block; or why it has none.
-#[derive(Drop)]
+#[derive(Clone, Copy)]
 pub enum BlockSize {
     Size(usize),
     Refused(Refusal),

@@ -1,6 +1,7 @@
 // A message made call by call in a lent output: header and token, then option after option, then the payload. What was built
 // is the caller's to keep between the calls, as a small builder by value; each call judges and counts before it puts a byte, so
 // that a refused call changes nothing.
+#![tactic(auto)]
 ghost use Rattle.std.specs.Prelude.{◌≡◌};
 ghost use Rattle.ground.specs.Choice.{both};
 ghost use Rattle.refusal.specs.Number.{number_of};
@@ -14,7 +15,7 @@ use packet::limits::{MAX_OPTIONS, MAX_STORE, MAX_TOKEN, MAX_VALUE};
 use refusal::{Outcome, Refusal, Written};
 
 // How far a message has been built.
-#[derive(Drop)]
+#[derive(Clone, Copy)]
 pub struct Builder {
     pub strict: bool,
     // The code is that of an empty message: strict refuses all that would follow the header, plain drops the payload.
@@ -28,7 +29,7 @@ pub struct Builder {
 }
 
 // What a call answers: the builder for the next call, or a refusal.
-#[derive(Drop)]
+#[derive(Clone, Copy)]
 pub enum Built {
     More(Builder),
     Refused(Refusal),

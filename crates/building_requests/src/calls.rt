@@ -7,7 +7,7 @@ use words::{byte_at, part};
 
 // Where the token ends in the store and the payload after it, where the list of options begins in the line, and where the
 // line's last word ends.
-#[derive(Drop)]
+#[derive(Clone, Copy)]
 pub struct Ends {
     pub token: usize,
     pub options: usize,
@@ -16,7 +16,7 @@ pub struct Ends {
 }
 
 // How the calls ended: what the last one answered, which it was, from 0 for the start, and how much those before it built.
-#[derive(Drop)]
+#[derive(Clone, Copy)]
 pub struct Ended {
     pub last: Written,
     pub call: usize,
@@ -46,7 +46,7 @@ pub fn build(
 }
 
 // The builder after some options, how the last of their calls ended, and which call comes next or was refused.
-#[derive(Drop)]
+#[derive(Clone, Copy)]
 struct Row {
     builder: Builder,
     last: Outcome,

@@ -1,4 +1,5 @@
 // Requests to build a message call by call, in a room whose bytes are known before.
+#![tactic(auto)]
 mod calls;
 mod options;
 

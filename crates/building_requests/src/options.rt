@@ -3,7 +3,7 @@ use words::{NOWHERE, after, byte_at, bytes_at, low16, number_at};
 
 // An option whose value stands in the store from the place on that was named: its number, the end of its value, and where its
 // word ends, NOWHERE if it has no place.
-#[derive(Drop)]
+#[derive(Clone, Copy)]
 pub struct Taken {
     pub number: u16,
     pub end: usize,

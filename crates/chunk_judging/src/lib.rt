@@ -1,5 +1,6 @@
 // Strict reading's judgement of a datagram that lies in chunks of a freeze stream, read where they lie: no byte is copied, and no
 // packet is made.
+#![tactic(auto)]
 ghost use Rattle.std.specs.Prelude.{true, ◌≡◌, ◌+◌, ◌≤◌, ◌<◌, ◌^◌};
 ghost use Rattle.refusal.specs.Answer.{outcome, onward};
 ghost use Rattle.refusal.specs.Number.{number_of};
@@ -64,7 +65,7 @@ fn offset_of(form: Form, i: usize) -> usize
 }
 
 // Where a datagram lies: the form and the start of its chunks, and how many bytes it has.
-#[derive(Drop)]
+#[derive(Clone, Copy)]
 struct Chunks {
     form: Form,
     from: usize,
@@ -199,7 +200,7 @@ fn length_at(d: Chunks, stream: &[u8], number: usize, idx: usize, nibble: usize)
 }
 
 // A delta or a length, and the position after its extension.
-#[derive(Drop)]
+#[derive(Clone, Copy)]
 enum Extension {
     Value { value: usize, next: usize },
     Refused(Refusal),

@@ -1,11 +1,12 @@
 // The class of a code byte: the request and response codes that have names, and every other byte as reserved.
+#![tactic(auto)]
 ghost use Rattle.std.specs.Prelude.{◌≡◌, leb};
 ghost use Rattle.class.specs.Class.{byte_of, byte_of_request, byte_of_response, class_of};
 
 mod table;
 
 // The detailed class (request/response) of a message with the code.
-#[derive(Drop)]
+#[derive(Clone, Copy)]
 pub enum MessageClass {
     Empty,
     Request(RequestType),
@@ -35,7 +36,7 @@ impl MessageClass {
 }
 
 // The request codes.
-#[derive(Drop)]
+#[derive(Clone, Copy)]
 pub enum RequestType {
     Get,
     Post,
@@ -66,7 +67,7 @@ impl RequestType {
 }
 
 // The response codes.
-#[derive(Drop)]
+#[derive(Clone, Copy)]
 pub enum ResponseType {
     // 200 Codes
     Created,

@@ -1,4 +1,5 @@
 // Code classes and headers as words. A class is named as the enum names it, with a dot before what it holds.
+#![tactic(auto)]
 use class::{MessageClass, RequestType, ResponseType};
 use header::{Header, MessageType};
 use lines::put_number;
@@ -67,7 +68,7 @@ fn index_of_code(code: u8) -> usize {
 }
 
 // A class, and where its word ends.
-#[derive(Drop)]
+#[derive(Clone, Copy)]
 pub struct Class {
     pub class: MessageClass,
     pub next: usize,
@@ -105,7 +106,7 @@ fn named(index: usize) -> MessageClass {
 }
 
 // A header, and where its last word ends.
-#[derive(Drop)]
+#[derive(Clone, Copy)]
 pub struct Head {
     pub header: Header,
     pub next: usize,

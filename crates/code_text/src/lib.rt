@@ -1,4 +1,5 @@
 // Code bytes as text: class, one dot, detail.
+#![tactic(auto)]
 ghost use Rattle.std.specs.Prelude.{◌≡◌};
 ghost use Rattle.decimal.specs.Decimal.{decimal_of};
 ghost use Rattle.code_text.specs.CodeText.{numeral_at, dot_in, code_in, code_text, code_of};
@@ -7,7 +8,7 @@ use decimal::Decimal;
 use refusal::Refusal;
 
 // What reading a code from text answers.
-#[derive(Drop)]
+#[derive(Clone, Copy)]
 pub enum Code {
     Byte(u8),
     Refused(Refusal),

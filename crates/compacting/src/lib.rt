@@ -1,4 +1,5 @@
 // Compaction of a packet: its live bytes moved to the front of the edit store, so that dead bytes are given back.
+#![tactic(auto)]
 ghost use Rattle.std.specs.Prelude.{◌≡◌, ◌<◌, ◌≤◌, length};
 ghost use Rattle.refusal.specs.Answer.{written};
 ghost use Rattle.placing.specs.Put.{Puts};
@@ -14,7 +15,7 @@ use refusal::{Refusal, Written};
 
 // What compaction answers: the new end of what is taken in the edit store, or why nothing was moved; and the packet, rewritten,
 // or as it came beside a refusal.
-#[derive(Drop)]
+#[derive(Clone, Copy)]
 pub struct Compacted {
     pub outcome: Written,
     pub packet: Packet,

@@ -1,4 +1,5 @@
 // Reading a datagram step by step, option after option, with no array of records and no packet.
+#![tactic(auto)]
 ghost use Rattle.std.specs.Prelude.{◌≡◌};
 ghost use Rattle.refusal.specs.Answer.{outcome};
 ghost use Rattle.cursor.specs.Cursor.{Starts, StepsTo, Judges};
@@ -14,7 +15,7 @@ use refusal::{Outcome, Refusal};
 // A walk over a datagram that keeps nothing of what it has passed: the mode, the number of the option before, the position
 // where the next one may stand, and how many more there may be. `start` makes the first, and a step each next one. The fields
 // are wide: a cursor packed into a word would be taken apart by shifts and masks at each step.
-#[derive(Drop)]
+#[derive(Clone, Copy)]
 pub struct Cursor {
     pub strict: bool,
     pub number: u16,
@@ -23,7 +24,7 @@ pub struct Cursor {
 }
 
 // A good header, and the cursor before the first option; or why the datagram is refused.
-#[derive(Drop)]
+#[derive(Clone, Copy)]
 pub enum Start {
     Message { raw: HeaderRaw, cursor: Cursor },
     Refused(Refusal),
@@ -31,7 +32,7 @@ pub enum Start {
 
 // What stands at a cursor: an option, with the cursor after it; the payload, and the walk has ended well; or why the datagram
 // is refused.
-#[derive(Drop)]
+#[derive(Clone, Copy)]
 pub enum Step {
     Option {
         number: u16,

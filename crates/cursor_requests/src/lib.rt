@@ -1,4 +1,5 @@
 // Requests on reading step by step: a datagram's header, each option that a cursor passes, and how its walk ends.
+#![tactic(auto)]
 use cursor::{Cursor, Start, Step};
 use header::HeaderRaw;
 use lines::put_number;
@@ -57,7 +58,7 @@ fn put_head(out: &mut [u8], place: usize, raw: HeaderRaw) -> usize {
 }
 
 // How far a walk has come: its cursor, the place after what was put, and whether it goes on.
-#[derive(Drop)]
+#[derive(Clone, Copy)]
 struct Walk {
     cursor: Cursor,
     place: usize,

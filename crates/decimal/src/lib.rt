@@ -1,4 +1,5 @@
 // Decimal numbers as text, both ways: put into a lent output, and read from lent bytes.
+#![tactic(auto)]
 ghost use Rattle.std.specs.Prelude.{◌≡◌};
 ghost use Rattle.refusal.specs.Answer.{onward};
 ghost use Rattle.placing.specs.Put.{Puts};
@@ -21,7 +22,7 @@ pub fn put_decimal(out: &mut [u8], at: usize, number: u64) -> usize
 }
 
 // What a text says as a number.
-#[derive(Drop)]
+#[derive(Clone, Copy)]
 pub enum Decimal {
     Value(u64),
     Bad,

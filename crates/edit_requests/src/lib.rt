@@ -1,4 +1,5 @@
 // The request to play an edit script over a new packet or a datagram.
+#![tactic(auto)]
 use edit_scripts::{Script, played};
 use getter_words::put_getters;
 use packet::Packet;
@@ -95,7 +96,7 @@ fn edited(
 }
 
 // A script before its first step, and how long the datagram is.
-#[derive(Drop)]
+#[derive(Clone, Copy)]
 struct Begun {
     script: Script,
     length: usize,

@@ -1,4 +1,5 @@
 // Edit scripts: a packet, changed step by step.
+#![tactic(auto)]
 use compacting::{Compacted, compact};
 use edit_steps::{ASK, COMPACT, Step, raw_step_at, step_at};
 use edit_taking::take;
@@ -8,7 +9,7 @@ use refusal::{Outcome, Refusal, Written};
 use words::{NOWHERE, byte_at, ended, finished, numbers_end};
 
 // A packet on its way through a script.
-#[derive(Drop)]
+#[derive(Clone, Copy)]
 pub struct Script {
     pub packet: Packet,
     // How many bytes of the edit store are taken.

@@ -7,7 +7,7 @@ use words::{NOWHERE, Named, Number, after, low32, name_at, number_at, past};
 
 // A step: which it is, its number, its class and its values. What it does not have is 0, empty or none. Where it ends
 // stands in its values.
-#[derive(Drop)]
+#[derive(Clone, Copy)]
 pub struct Step {
     pub index: usize,
     pub number: u64,

@@ -6,7 +6,7 @@ use words::{NOWHERE, byte_at, bytes_at, separator};
 
 // Values that were read from a word: the ranges of the first 129 as three numbers each, how many of those there are, the place
 // of the edit store after the values, NOWHERE if they find no place in it, and where the word ends.
-#[derive(Drop)]
+#[derive(Clone, Copy)]
 pub struct Values {
     pub ranges: [u32; 387],
     pub count: usize,

@@ -1,6 +1,7 @@
 // A worked example: reads a datagram from standard input, looks at its path, adds a query to it and writes it again.
+#![tactic(auto)]
 use editing::add_option;
-use hex::put_hex;
+use hexadecimal::put_hex;
 use libc::STDIN_FILENO;
 use packet::{Home, Packet};
 use placing::put_byte;

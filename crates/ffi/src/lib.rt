@@ -3,6 +3,7 @@
 // the payload, count of records, and then number, home, start and length of each record. A home is 0 for the datagram and 1
 // for the edit store. What takes or gives the flat form has its version in its name, so that a caller of another version
 // does not link.
+#![tactic(auto)]
 ghost use Rattle.std.specs.Prelude.{◌≡◌, [], ◌≤◌, length, take};
 ghost use Rattle.refusal.specs.Answer.{written, outcome, after, fitted};
 ghost use Rattle.packet.specs.Packet.{stores};

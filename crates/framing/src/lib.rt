@@ -1,5 +1,6 @@
 // A message as a datagram and as its frame over TCP (RFC 8323, section 3.2), each made of the other. Both hold token, options and
 // payload as the same bytes, which are copied once; what stands before them is made anew.
+#![tactic(auto)]
 ghost use Rattle.std.specs.Prelude.{◌≡◌, ◌++◌, eqb, ltb, length, ◌+◌, ◌≤◌, ◌<◌};
 ghost use Rattle.ground.specs.Choice.{both};
 ghost use Rattle.rfc.specs.Frame.{frame_head};
@@ -38,7 +39,7 @@ fn put_frame(datagram: &[u8], out: &mut [u8]) -> Written
 }
 
 // The bytes of a frame before its token: the first `len` of these.
-#[derive(Drop)]
+#[derive(Clone, Copy)]
 struct HeadBytes {
     bytes: [u8; 6],
     len: usize,
@@ -107,14 +108,14 @@ pub fn from_frame(frame: &[u8], kind: MessageType, id: u16, out: &mut [u8]) -> W
 }
 
 // What stands before the token in a frame: the token's length and the code, and where the token starts.
-#[derive(Drop)]
+#[derive(Clone, Copy)]
 struct Head {
     token_length: u8,
     code: u8,
     token_at: usize,
 }
 
-#[derive(Drop)]
+#[derive(Clone, Copy)]
 enum HeadRead {
     Head(Head),
     Refused(Refusal),

@@ -2,7 +2,7 @@
 use stream::Form;
 use words::{NOWHERE, past};
 
-#[derive(Drop)]
+#[derive(Clone, Copy)]
 pub enum Asked {
     Form(Form),
     Nothing,

@@ -1,6 +1,6 @@
 // A pass over the lines: to judge them, or to freeze them. An empty line is no message.
 use freezing::freeze;
-use hex::put_unhexed;
+use hexadecimal::put_unhexed;
 use peer_reading::peer_in;
 use placing::put_bytes;
 use reading::from_bytes_strict;

@@ -1,6 +1,7 @@
 // What the getters answer of a packet, as words: content format, Observe, and the options of the numbers asked for.
+#![tactic(auto)]
 use decimal::put_decimal;
-use hex::put_hex;
+use hexadecimal::put_hex;
 use lines::put_number;
 use output::spilled;
 use packet::Packet;

@@ -1,4 +1,5 @@
 // The message header: the four bytes on the wire, and its fields.
+#![tactic(auto)]
 ghost use Rattle.std.specs.Prelude.{◌≡◌, length};
 ghost use Rattle.refusal.specs.Answer.{written, fitted, after, beside};
 ghost use Rattle.header.specs.Header.{number_of_type, type_of, new_raw, version_of, token_of, raw_bytes, raw_in, raw_read, new_header, header_of, raw_of, with_version, with_type, with_class, with_id, with_code, setting_of, code_output};
@@ -8,7 +9,7 @@ use code_text::Code;
 use refusal::{Outcome, Refusal, Written};
 
 // The raw byte header representation, useful for encoding/decoding directly.
-#[derive(Drop)]
+#[derive(Clone, Copy)]
 pub struct HeaderRaw {
     pub ver_type_tkl: u8,
     pub code: u8,
@@ -16,7 +17,7 @@ pub struct HeaderRaw {
 }
 
 // What reading a raw header answers.
-#[derive(Drop)]
+#[derive(Clone, Copy)]
 pub enum RawRead {
     Raw(HeaderRaw),
     Refused(Refusal),
@@ -89,7 +90,7 @@ fn put_front(out: &mut [u8], bytes: &[u8]) -> Written
 }
 
 // The message types.
-#[derive(Drop)]
+#[derive(Clone, Copy)]
 pub enum MessageType {
     Confirmable,
     NonConfirmable,
@@ -124,7 +125,7 @@ impl MessageType {
 }
 
 // The message header. The token's length is the token's own, so no header holds it.
-#[derive(Drop)]
+#[derive(Clone, Copy)]
 pub struct Header {
     pub version: u8,
     pub message_type: MessageType,
@@ -133,7 +134,7 @@ pub struct Header {
 }
 
 // What setting a code from text answers: after a refusal the header is as it came.
-#[derive(Drop)]
+#[derive(Clone, Copy)]
 pub struct HeaderSet {
     pub outcome: Outcome,
     pub header: Header,

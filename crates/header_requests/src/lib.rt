@@ -1,4 +1,5 @@
 // Requests on headers, their codes and classes, and message types.
+#![tactic(auto)]
 mod classes;
 mod headers;
 

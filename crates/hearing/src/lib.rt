@@ -1,4 +1,5 @@
 // The duplicate rule of RFC 7252, section 4.5, one message after the other, over a lent table of 64 places.
+#![tactic(auto)]
 ghost use Rattle.std.specs.Prelude.{◌≡◌, ◌+◌, ◌<◌, ◌≤◌, length};
 ghost use Rattle.ground.specs.Part.{part};
 ghost use Rattle.rfc.specs.Duplicates.{alike, stands};
@@ -23,7 +24,7 @@ const EXCHANGE_LIFETIME: u64 = 247;
 const NON_LIFETIME: u64 = 145;
 
 // What the rule says of a message.
-#[derive(Drop)]
+#[derive(Clone, Copy)]
 pub enum Verdict {
     New,
     Duplicate,
@@ -44,7 +45,7 @@ impl Verdict {
 }
 
 // What one message is, or why it wasn't taken.
-#[derive(Drop)]
+#[derive(Clone, Copy)]
 pub enum Heard {
     Is(Verdict),
     Refused(Refusal),

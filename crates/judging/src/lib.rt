@@ -1,5 +1,6 @@
 // The judgement of a packet before it is written, checked or edited: whether it has a bad record, what its options take,
 // and where the records of a number stand.
+#![tactic(auto)]
 ghost use Rattle.std.specs.Prelude.{◌≡◌, ◌≤◌, ltb};
 ghost use Rattle.ground.specs.Choice.{pick, either};
 ghost use Rattle.packet.specs.Packet.{stores};
@@ -10,7 +11,7 @@ use packet::limits::{MAX_OPTIONS, MAX_STORE, MAX_TOKEN, MAX_VALUE};
 use packet::{Home, OptionRecord, Packet, Range};
 
 // How long the two stores are.
-#[derive(Drop)]
+#[derive(Clone, Copy)]
 pub struct Lengths {
     pub datagram: usize,
     pub edits: usize,
@@ -39,7 +40,7 @@ impl Lengths {
 }
 
 // A packet is good, and its options take this many bytes; or it has a bad record.
-#[derive(Drop)]
+#[derive(Clone, Copy)]
 pub enum Judged {
     OptionsSize(usize),
     BadRecord,
@@ -149,7 +150,7 @@ pub fn extension_size(n: usize) -> usize
 }
 
 // Where the records of a number stand.
-#[derive(Drop)]
+#[derive(Clone, Copy)]
 pub enum Span {
     // From `low` up to `high`, among records whose numbers do not fall.
     Between { low: usize, high: usize },

@@ -7,8 +7,8 @@ use Rattle.rfc.specs.Message.{Message, Opt, extension_of, option_layout, options
 use Rattle.code_text.specs.CodeText.{code_text}
 use Rattle.decimal.specs.Decimal.{decimal}
 use Rattle.decimal.proofs.Laws.{decimal_size}
-use Rattle.hex.specs.Hex.{hex}
-use Rattle.hex.proofs.Laws.{hex_size}
+use Rattle.hexadecimal.specs.Hex.{hex}
+use Rattle.hexadecimal.proofs.Laws.{hex_size}
 use Rattle.lines.specs.Lines.{space, head, token, option, payload, refusal, numbered, bytes_line, head_line, option_line, option_lines, message_lines, refusal_line}
 
 -- The bytes of an option: at least its value and one more.

@@ -4,7 +4,7 @@ use Rattle.rfc.specs.Message.{Message, Opt}
 use Rattle.refusal.specs.Answer.{Answer, given, refused}
 use Rattle.code_text.specs.CodeText.{code_text}
 use Rattle.decimal.specs.Decimal.{decimal}
-use Rattle.hex.specs.Hex.{hex}
+use Rattle.hexadecimal.specs.Hex.{hex}
 
 -- The words, each with a space after it.
 abbrev pub space : List ℕ

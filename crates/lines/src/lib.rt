@@ -1,4 +1,5 @@
 // The lines of a message, or of the refusal that took its place. Each ends with a byte that the caller names.
+#![tactic(auto)]
 ghost use Rattle.std.specs.Prelude.{[], ◌++◌};
 ghost use Rattle.refusal.specs.Answer.{outcome};
 ghost use Rattle.refusal.specs.Number.{number_of};
@@ -11,7 +12,7 @@ ghost use Rattle.lines.specs.Lines.{space, numbered, bytes_line, head_line, opti
 
 use decimal::put_decimal;
 use header::Header;
-use hex::put_hex;
+use hexadecimal::put_hex;
 use packet::Packet;
 use placing::{put_byte, put_bytes};
 use reading::Decoded;

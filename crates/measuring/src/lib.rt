@@ -1,4 +1,5 @@
 // What a packet answers when it is written, plain and strict, before a byte is: the refusals, or how many bytes it takes.
+#![tactic(auto)]
 ghost use Rattle.std.specs.Prelude.{◌≡◌, ◌+◌, ◌*◌, ◌≤◌};
 ghost use Rattle.refusal.specs.Answer.{written, outcome};
 ghost use Rattle.packet.specs.Limits.{max_options, max_value};
@@ -12,7 +13,7 @@ use packet::{Packet, Range};
 use refusal::{Outcome, Refusal, Written};
 
 // How large a message may be.
-#[derive(Drop)]
+#[derive(Clone, Copy)]
 pub enum Limit {
     // Packet::MAX_SIZE.
     Default,

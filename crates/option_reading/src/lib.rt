@@ -1,4 +1,5 @@
 // Reading one option of a datagram: nibbles, extensions, the value, the order of refusals (the loop of packet.rs's from_bytes).
+#![tactic(auto)]
 ghost use Rattle.std.specs.Prelude.{◌≡◌, ◌≤◌, ◌<◌, length};
 ghost use Rattle.refusal.specs.Number.{number_of};
 ghost use Rattle.option_reading.specs.Answers.{ByteAt, extended_of, found_of};
@@ -9,7 +10,7 @@ use packet::{Home, OptionRecord};
 use refusal::Refusal;
 
 // What stands at a position where an option may.
-#[derive(Drop)]
+#[derive(Clone, Copy)]
 pub enum Found {
     // The end of the options, by FF or with the datagram, and where the payload starts.
     End { marked: bool, payload: usize },
@@ -93,7 +94,7 @@ fn value_at(buf: &[u8], number: usize, start: usize, len: usize) -> Found
 }
 
 // A delta or a length, and the position after its extension.
-#[derive(Drop)]
+#[derive(Clone, Copy)]
 enum Extension {
     Value { value: usize, next: usize },
     Refused(Refusal),

@@ -1,4 +1,5 @@
 // Convenience types for option values: uints of four widths, and text.
+#![tactic(auto)]
 ghost use Rattle.std.specs.Prelude.{◌≡◌, length};
 ghost use Rattle.rfc.specs.Uint.{uint};
 ghost use Rattle.refusal.specs.Answer.{written, fitted, after};
@@ -11,7 +12,7 @@ use utf8::is_text;
 
 // What reading a uint answers: the number, and how many leading zero bytes were read. Every reader of a uint goes through
 // this type.
-#[derive(Drop)]
+#[derive(Clone, Copy)]
 pub enum Uint {
     Number { number: u64, zeros: usize },
     Refused(Refusal),
@@ -53,10 +54,10 @@ pub fn option_to_uint(encoded: &[u8], value_size: usize) -> Uint
 }
 
 // A uint of at most 1 byte.
-#[derive(Drop)]
+#[derive(Clone, Copy)]
 pub struct OptionValueU8(pub u8);
 
-#[derive(Drop)]
+#[derive(Clone, Copy)]
 pub enum ReadU8 {
     Value { value: OptionValueU8, zeros: usize },
     Refused(Refusal),
@@ -86,10 +87,10 @@ impl OptionValueU8 {
 }
 
 // A uint of at most 2 bytes.
-#[derive(Drop)]
+#[derive(Clone, Copy)]
 pub struct OptionValueU16(pub u16);
 
-#[derive(Drop)]
+#[derive(Clone, Copy)]
 pub enum ReadU16 {
     Value { value: OptionValueU16, zeros: usize },
     Refused(Refusal),
@@ -119,10 +120,10 @@ impl OptionValueU16 {
 }
 
 // A uint of at most 4 bytes.
-#[derive(Drop)]
+#[derive(Clone, Copy)]
 pub struct OptionValueU32(pub u32);
 
-#[derive(Drop)]
+#[derive(Clone, Copy)]
 pub enum ReadU32 {
     Value { value: OptionValueU32, zeros: usize },
     Refused(Refusal),
@@ -152,10 +153,10 @@ impl OptionValueU32 {
 }
 
 // A uint of at most 8 bytes.
-#[derive(Drop)]
+#[derive(Clone, Copy)]
 pub struct OptionValueU64(pub u64);
 
-#[derive(Drop)]
+#[derive(Clone, Copy)]
 pub enum ReadU64 {
     Value { value: OptionValueU64, zeros: usize },
     Refused(Refusal),
@@ -185,7 +186,7 @@ impl OptionValueU64 {
 }
 
 // OptionValueString: no answer can hold the text's bytes here, so a value is judged, and `text_part` hands it back.
-#[derive(Drop)]
+#[derive(Clone, Copy)]
 pub enum Text {
     Valid,
     Refused(Refusal),

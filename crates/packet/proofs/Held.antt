@@ -1,7 +1,7 @@
 -- What the types tell a function of a packet that it is handed.
-use mathlib.Core.Path.{◌≡◌, sym, ◌∙◌}
-use mathlib.Core.List.{List, [], ◌∷◌, map}
-use lib.ListN.{length, length-map}
+use mathlib.Core.Path.{◌≡◌}
+use mathlib.Core.List.{List, [], ◌∷◌}
+use lib.ListN.{length}
 use mir.Val.{Val}
 use denote.Array.{each}
 use denote.Laws.{Is}
@@ -25,9 +25,9 @@ abbrev pub Handed : Packet → Type 0
 Handed p = Is (Declared.row Row.the_type) p (Struct.val Row.the_type Laws.the_laws p ∷ [])
 
 pub full : (p : Packet) → Handed p → length p.options ≡ max_options
-full p h = sym (length-map p.options _) ∙ h.1.1.1.1.1.0.1.0.1
+full p h = h.1.1.1.1.1.0.1.0.1
 
-numbers : (rs : List OptionRecord) (vs : List Val) → shadow (each (Record.the_field).row.Denot (Record.the_field).row.own_val (map (Record.the_type).to rs) vs) → Numbers rs
+numbers : (rs : List OptionRecord) (vs : List Val) → shadow (each (Record.the_row).Denot (Record.the_row).own_val rs vs) → Numbers rs
 numbers [] vs h = tt
 numbers (r ∷ rs) [] h = absurd h
 numbers (r ∷ rs) (v ∷ vs) h = (h.0.1.1.0.1, numbers rs vs h.1)

@@ -1,5 +1,6 @@
 // A packet: a header, and the token, option values and payload as ranges of two lent stores of bytes, the datagram and the
 // edit store (packet.rs).
+#![tactic(auto)]
 ghost use Rattle.std.specs.Prelude.{◌≡◌, length, get_or, ltb};
 ghost use Rattle.packet.specs.Packet.{new_packet, none, chosen, stores, bytes_in, place_in, bytes_of, place_of, range_of, value_of, records_of, of_number, number_at};
 
@@ -9,7 +10,7 @@ use limits::MAX_OPTIONS;
 pub mod limits;
 
 // The store that a range lies in.
-#[derive(Drop)]
+#[derive(Clone, Copy)]
 pub enum Home {
     Datagram,
     Edits,
@@ -28,7 +29,7 @@ impl Home {
 }
 
 // A range of the store that it names.
-#[derive(Drop)]
+#[derive(Clone, Copy)]
 pub struct Range {
     pub home: Home,
     pub start: u32,
@@ -37,7 +38,7 @@ pub struct Range {
 
 // An option: its number, and its value as a range. The spare field fills the record to three words, so that an array of
 // records is cleared and copied in one go; it is 0 in every record that is made here.
-#[derive(Drop)]
+#[derive(Clone, Copy)]
 pub struct OptionRecord {
     pub number: u16,
     pub home: Home,
@@ -46,7 +47,7 @@ pub struct OptionRecord {
     pub len: u32,
 }
 
-#[derive(Drop)]
+#[derive(Clone, Copy)]
 pub struct Packet {
     pub header: Header,
     pub token: Range,
@@ -122,7 +123,7 @@ impl OptionRecord {
 }
 
 // The number of an option, or that there is no such option.
-#[derive(Drop)]
+#[derive(Clone, Copy)]
 pub enum NumberAt {
     Number(u16),
     Absent,

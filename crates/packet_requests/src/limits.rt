@@ -3,7 +3,7 @@ use words::{after, name_at, number_at};
 use writing::Limit;
 
 // A limit, and where its word ends.
-#[derive(Drop)]
+#[derive(Clone, Copy)]
 pub struct Limiting {
     pub limit: Limit,
     pub next: usize,

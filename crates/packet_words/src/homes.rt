@@ -6,7 +6,7 @@ use words::{after, byte_at};
 pub const EDITS: usize = 100000;
 
 // Which store a word names, and where the rest of it is read from, after which byte.
-#[derive(Drop)]
+#[derive(Clone, Copy)]
 pub struct Homed {
     pub home: Home,
     pub at: usize,

@@ -1,4 +1,5 @@
 // Packets as words, both ways.
+#![tactic(auto)]
 mod homes;
 mod read;
 mod shown;

@@ -5,7 +5,7 @@ use packet::{Home, OptionRecord, Packet, Range};
 use words::{NOWHERE, after, byte_at, bytes_at, low16, low32, number_at};
 
 // A packet that was read from words, where its datagram and its edit store end, and where its last word ends.
-#[derive(Drop)]
+#[derive(Clone, Copy)]
 pub struct Parts {
     pub packet: Packet,
     pub ends: Ends,
@@ -13,14 +13,14 @@ pub struct Parts {
 }
 
 // Where the datagram and the edit store of a packet end, in the store that holds both.
-#[derive(Drop)]
+#[derive(Clone, Copy)]
 pub struct Ends {
     pub datagram: usize,
     pub edits: usize,
 }
 
 // A value, where both stores end after it, and where its word ends.
-#[derive(Drop)]
+#[derive(Clone, Copy)]
 struct Value {
     range: Range,
     ends: Ends,
@@ -118,7 +118,7 @@ pub fn range(home: Home, start: usize, end: usize) -> Range {
 }
 
 // Options that were read from a word, where both stores end after their values, and where the word ends.
-#[derive(Drop)]
+#[derive(Clone, Copy)]
 struct Options {
     records: [OptionRecord; 128],
     count: usize,

@@ -1,13 +1,13 @@
 // Packets as words of an answer.
 use decimal::put_decimal;
-use hex::put_hex;
+use hexadecimal::put_hex;
 use output::spilled;
 use packet::{NumberAt, Packet};
 use placing::put_byte;
 use telling::{PACKET, Told, put_value};
 
 // An answer, and the packet whose token, options and payload may come after it.
-#[derive(Drop)]
+#[derive(Clone, Copy)]
 pub struct Reply {
     pub told: Told,
     pub shown: bool,

@@ -1,6 +1,7 @@
 // A pass over a freeze stream of any length, message by message through one window: to judge it, to show its messages, or to
 // convert them. A message has at most 1,396 bytes, so the window always holds the next one whole, and nothing else bounds the
 // stream. Refusals are those of the whole stream: 19 of any message before the first bad datagram's own.
+#![tactic(auto)]
 mod messages;
 
 use messages::take_messages;
@@ -14,7 +15,7 @@ use words::part;
 const MANY: u64 = 1000000000000000;
 
 // What is done with each message.
-#[derive(Drop)]
+#[derive(Clone, Copy)]
 pub enum Work {
     Judge,
     Show,

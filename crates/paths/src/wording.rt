@@ -1,5 +1,5 @@
 // The lines of an answer.
-use hex::put_hex;
+use hexadecimal::put_hex;
 use placing::{put_byte, put_bytes};
 use reports::put_number;
 

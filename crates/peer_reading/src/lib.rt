@@ -1,5 +1,6 @@
 // Peers, read as people write them: an IPv4 address as 192.0.2.1:5683, any other in brackets, as [2001:db8::1]:5683 (RFC 4291,
 // section 2.2). A peer is 18 bytes, 16 of address and 2 of port; an IPv4 address stands in its IPv4-mapped form.
+#![tactic(auto)]
 mod groups;
 mod numbers;
 
@@ -16,14 +17,14 @@ use refusal::{Outcome, Refusal};
 use uri_text::part_end;
 
 // A peer that was read; zeros beside a refusal.
-#[derive(Drop)]
+#[derive(Clone, Copy)]
 pub struct Peer {
     pub outcome: Outcome,
     pub bytes: [u8; 18],
 }
 
 // A number before a mark, and where the text after it starts; or there is none.
-#[derive(Drop)]
+#[derive(Clone, Copy)]
 pub enum Number {
     Value(u64, usize),
     Bad,

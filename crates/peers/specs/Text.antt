@@ -2,7 +2,7 @@
 -- sections 2.2 and 2.5.5.2; RFC 5952, sections 4, 5 and 6). A peer is 16 bytes of address and 2 of port.
 use Rattle.std.specs.Prelude.{ℕ, zero, suc, ◌+◌, ◌-◌, ◌*◌, ◌/◌, ◌%◌, Bool, true, List, [], ◌∷◌, ◌++◌, get_or, ltb, eqb}
 use Rattle.ground.specs.Choice.{pick, both}
-use Rattle.hex.specs.Hex.{hex_digit}
+use Rattle.hexadecimal.specs.Hex.{hex_digit}
 use Rattle.decimal.specs.Decimal.{decimal}
 
 -- The number of two bytes, the high one first.

@@ -1,10 +1,11 @@
 // Peers, put as people write them. A peer is 18 bytes: 16 of address and 2 of port, high bytes first. An IPv4 address, which stands
 // in its IPv4-mapped form (RFC 4291, section 2.5.5.2), is put as 192.0.2.1:5683, any other in brackets, as [2001:db8::1]:5683, by
 // RFC 5952. `peer_reading` reads them.
+#![tactic(auto)]
 ghost use Rattle.std.specs.Prelude.{◌≡◌, [], ◌∷◌, ◌<◌, ◌≤◌};
 ghost use Rattle.ground.specs.Choice.{pick};
 ghost use Rattle.placing.specs.Put.{Puts};
-ghost use Rattle.hex.specs.Hex.{hex_digit};
+ghost use Rattle.hexadecimal.specs.Hex.{hex_digit};
 ghost use Rattle.peers.specs.Text.{pair as pair_of, group, shown, group_text, piece, row, run_end, longest as longestOf, groups_text, is_mapped, dotted, address_text, peer_text};
 
 use decimal::put_decimal;

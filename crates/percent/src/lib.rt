@@ -1,5 +1,6 @@
 // Bytes as the text of a path segment or of a query part, both ways: characters that stand literally, and percent codes for
 // all others (RFC 3986, section 2.1).
+#![tactic(auto)]
 ghost use Rattle.std.specs.Prelude.{◌≡◌, ◌<◌, ◌≤◌, length};
 ghost use Rattle.rfc.specs.Uri.{segment, query, literal};
 ghost use Rattle.rfc.specs.Percent.{hex_digit, hex_value, coded, code};
@@ -7,7 +8,7 @@ ghost use Rattle.placing.specs.Put.{Puts};
 ghost use Rattle.percent.specs.Step.{kind_of, percent_at, step_at, others};
 
 // The two kinds of parts: segments of a path, and parts of a query.
-#[derive(Drop)]
+#[derive(Clone, Copy)]
 pub enum Kind {
     Segment,
     Query,
@@ -81,7 +82,7 @@ fn hex_digit(n: u8) -> u8
 }
 
 // What stands at a place of a part's text.
-#[derive(Drop)]
+#[derive(Clone, Copy)]
 pub enum Step {
     // A byte, and the place after it.
     Byte(u8, usize),

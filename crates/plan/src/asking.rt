@@ -3,7 +3,7 @@ use option_value::{Uint, option_to_uint};
 use words::{NOWHERE, after, byte_at, bytes_at, finished, low32, number_at, part, past, separator};
 
 // An image of a size, with so many bytes in its held list; and how many values of a plan are given, if one is.
-#[derive(Drop)]
+#[derive(Clone, Copy)]
 pub struct Asked {
     pub understood: bool,
     pub size: usize,
@@ -37,7 +37,7 @@ pub fn units_of(size: usize) -> usize {
 }
 
 // A held list: how many bytes it has, and where its word ends.
-#[derive(Drop)]
+#[derive(Clone, Copy)]
 struct Held {
     length: usize,
     next: usize,
@@ -107,7 +107,7 @@ fn ranges_at(line: &[u8], at: usize, held: &mut [u8], units: usize) -> usize {
 }
 
 // The last unit of a range, and where its word ends.
-#[derive(Drop)]
+#[derive(Clone, Copy)]
 struct Last {
     unit: usize,
     next: usize,
@@ -129,7 +129,7 @@ fn last_at(line: &[u8], at: usize, first: u64) -> Last {
 }
 
 // Values that were put into a list, how many, and where the last word ends.
-#[derive(Drop)]
+#[derive(Clone, Copy)]
 struct Options {
     count: usize,
     next: usize,
@@ -152,7 +152,7 @@ fn options_at(line: &[u8], at: usize, list: &mut [u32]) -> Options {
 }
 
 // The value of an option, and where its word ends.
-#[derive(Drop)]
+#[derive(Clone, Copy)]
 struct Value {
     value: u32,
     next: usize,

@@ -2,7 +2,7 @@
 ghost use Rattle.std.specs.Prelude.{◌≤◌};
 
 use decimal::put_decimal;
-use hex::put_hex;
+use hexadecimal::put_hex;
 use output::spilled;
 use placing::{put_byte, put_bytes, put_uint};
 use words::part;

@@ -5,7 +5,7 @@ use telling::Told;
 use words::{NOWHERE, after, byte_at, bytes_at, finished, low32, number_at, part, separator};
 
 // What the check answered.
-#[derive(Drop)]
+#[derive(Clone, Copy)]
 pub enum Checked {
     NoRequest,
     Verdict(Outcome),
@@ -28,7 +28,7 @@ pub fn check(line: &[u8], at: usize, store: &mut [u8], list: &mut [u32]) -> Chec
 }
 
 // Values that were put into a list, how many, and where their word ends.
-#[derive(Drop)]
+#[derive(Clone, Copy)]
 struct Values {
     count: usize,
     next: usize,

@@ -1,4 +1,5 @@
 // Requests on plans: our plan of an image, and the check of one that is given.
+#![tactic(auto)]
 mod checked;
 mod made;
 

@@ -7,7 +7,7 @@ use telling::Told;
 use words::{bytes_at, finished, number_at, part};
 
 // What the planner answered, and whether every number that it did not write is as it was before.
-#[derive(Drop)]
+#[derive(Clone, Copy)]
 pub enum Made {
     NoRequest,
     Plan { count: usize, kept: bool },

@@ -1,4 +1,5 @@
 // Our planner: which blocks to ask for, so that each missing unit of an image is fetched once, in blocks as large as may be.
+#![tactic(auto)]
 ghost use Rattle.std.specs.Prelude.{◌≡◌, ℕ, ◌<◌, ◌≤◌, length, get_or};
 ghost use Rattle.rfc.specs.Block.{block_number};
 ghost use Rattle.placing.specs.Put.{Put};
@@ -9,7 +10,7 @@ use image::{MISSING, all_are, is_image};
 use refusal::{Refusal, Written};
 
 // The largest block that may start at a unit: its exponent, and how many units it has.
-#[derive(Drop)]
+#[derive(Clone, Copy)]
 struct Found {
     exponent: u32,
     width: usize,

@@ -1,4 +1,5 @@
 // Requests on the getters of a raw packet, and on its edits.
+#![tactic(auto)]
 mod edited;
 mod reply;
 

@@ -7,7 +7,7 @@ use telling::Told;
 use words::part;
 
 // What comes after the word and the numbers of an answer.
-#[derive(Drop)]
+#[derive(Clone, Copy)]
 pub enum More {
     Nothing,
     // The packet, raw.
@@ -17,7 +17,7 @@ pub enum More {
 }
 
 // An answer, and a packet that may come after it, over stores that end so.
-#[derive(Drop)]
+#[derive(Clone, Copy)]
 pub struct Reply {
     told: Told,
     more: More,

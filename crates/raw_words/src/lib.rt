@@ -1,4 +1,5 @@
 // Raw packets as words, both ways: two stores, and ranges that need not be inside them.
+#![tactic(auto)]
 mod read;
 mod shown;
 

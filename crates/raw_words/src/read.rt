@@ -5,7 +5,7 @@ use packet_words::{EDITS, Ends, home_at, record, where_fits};
 use words::{NOWHERE, after, byte_at, bytes_at, low16, low32, number_at};
 
 // A range, and where its word ends.
-#[derive(Drop)]
+#[derive(Clone, Copy)]
 pub struct Ranged {
     pub range: Range,
     pub next: usize,
@@ -28,7 +28,7 @@ pub fn range_at(line: &[u8], at: usize, before: u8) -> Ranged {
 }
 
 // A raw packet, where its two stores end, and where its last word ends.
-#[derive(Drop)]
+#[derive(Clone, Copy)]
 pub struct Raw {
     pub packet: Packet,
     pub ends: Ends,
@@ -66,7 +66,7 @@ pub fn raw_at(line: &[u8], at: usize, store: &mut [u8]) -> Raw {
 }
 
 // The records of a packet, and where their word ends.
-#[derive(Drop)]
+#[derive(Clone, Copy)]
 struct Records {
     records: [OptionRecord; 128],
     next: usize,

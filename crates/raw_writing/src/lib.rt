@@ -1,4 +1,5 @@
 // Requests to write a raw packet, and to check one by the register.
+#![tactic(auto)]
 mod written;
 
 use packet_requests::check;

@@ -1,4 +1,5 @@
 // Reading a datagram to a packet, plain and strict (Packet::from_bytes of packet.rs).
+#![tactic(auto)]
 ghost use Rattle.std.specs.Prelude.{◌≡◌, Bool, not, eqb, ltb, ◌-◌, ◌≤◌, ◌<◌, length};
 ghost use Rattle.ground.specs.Choice.{both, either};
 ghost use Rattle.refusal.specs.Answer.{refused, beside};
@@ -15,7 +16,7 @@ use packet::{Home, OptionRecord, Packet, Range};
 use refusal::{Outcome, Refusal};
 
 // What reading answers. The packet of a refused datagram is the new packet.
-#[derive(Drop)]
+#[derive(Clone, Copy)]
 pub struct Decoded {
     pub outcome: Outcome,
     pub packet: Packet,

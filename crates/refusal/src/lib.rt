@@ -1,10 +1,12 @@
 // The numbered refusals of every operation.
+#![tactic(auto)]
+
 ghost use Rattle.std.specs.Prelude.{◌≡◌};
 ghost use Rattle.refusal.specs.Number.{number_of};
 
 // Why an operation answers no value, and above each when it is given, exactly. What else a refusal carries, as the index of a
 // bad record, stands in the answer that gives it.
-#[derive(Drop)]
+#[derive(Clone, Copy)]
 pub enum Refusal {
     // There are fewer than 4 bytes to read.
     InvalidHeader,
@@ -95,14 +97,14 @@ impl Refusal {
 }
 
 // What writing into a lent output answers: how many bytes stand there now, from its start; or why nothing was written.
-#[derive(Drop)]
+#[derive(Clone, Copy)]
 pub enum Written {
     Length(usize),
     Refused(Refusal),
 }
 
 // What an operation answers that has no value of its own.
-#[derive(Drop)]
+#[derive(Clone, Copy)]
 pub enum Outcome {
     Done,
     Refused(Refusal),

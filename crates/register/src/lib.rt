@@ -1,4 +1,5 @@
 // The register of options: what an option's number says, and the check of a packet's options.
+#![tactic(auto)]
 ghost use Rattle.std.specs.Prelude.{◌≡◌, Bool, [], ◌≤◌};
 ghost use Rattle.rfc.specs.Option.{critical, unsafe, no_cache_key};
 ghost use Rattle.packet.specs.Packet.{stores, records_of};
@@ -36,7 +37,7 @@ pub fn is_no_cache_key(number: u16) -> bool
 }
 
 // What the check says of a packet.
-#[derive(Drop)]
+#[derive(Clone, Copy)]
 pub enum Verdict {
     Passes,
     Refused(Refusal),
@@ -46,7 +47,7 @@ pub enum Verdict {
 
 // What the check of a packet answers: what it says of the packet, and which of its records are kept. Of a packet that passes,
 // the others are passed over; beside a refusal none is kept.
-#[derive(Drop)]
+#[derive(Clone, Copy)]
 pub struct Checked {
     pub outcome: Verdict,
     pub kept: [bool; MAX_OPTIONS],

@@ -7,11 +7,11 @@ use packet::OptionRecord;
 use tables::option_number::*;
 
 // A listed option: its number, its shortest and its longest value, and whether a packet may have several.
-#[derive(Drop)]
+#[derive(Clone, Copy)]
 pub struct Row(pub u16, pub u32, pub u32, pub bool);
 
 // The row of a number, if it is listed.
-#[derive(Drop)]
+#[derive(Clone, Copy)]
 pub enum Listing {
     Listed(Row),
     Unlisted,

@@ -2,6 +2,7 @@
 // one after the other. Standard output has a line for each, then how many of them are new, duplicates and passed, and last the
 // verdict, which says why and for which message the replay ended where it did. A trace that is none gives the verdict alone. It is
 // read twice, so it may be of any length; from a pipe it is first copied to /tmp, and the room there bounds it.
+#![tactic(auto)]
 mod messages;
 mod shown;
 mod tallies;

@@ -17,7 +17,7 @@ const MOST: usize = 1401;
 const MANY: u64 = 1000000000000000;
 
 // What is done with each message.
-#[derive(Drop)]
+#[derive(Clone, Copy)]
 pub enum Work {
     Judge,
     Replay,

@@ -4,7 +4,7 @@ use refusal::{Outcome, Refusal};
 use reread::View;
 use walks::Walk;
 
-#[derive(Drop)]
+#[derive(Clone, Copy)]
 pub struct Tally {
     pub walk: Walk,
     // What of the trace is in the window, from the next message on.

@@ -7,7 +7,7 @@ use telling::{Told, put_value};
 use words::{Peer, bytes_at, finished, low8, low16, low32, number_at, part, peer_at};
 
 // A message as the line names it, and where its words end.
-#[derive(Drop)]
+#[derive(Clone, Copy)]
 struct Message {
     before: u32,
     time: u32,

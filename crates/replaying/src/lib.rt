@@ -1,4 +1,5 @@
 // A trace replayed: its messages, one after the other, through the duplicate rule over a lent table, with a listing of what each is.
+#![tactic(auto)]
 ghost use Rattle.std.specs.Prelude.{length};
 ghost use Rattle.refusal.specs.Answer.{outcome};
 ghost use Rattle.hearing.specs.Calls.{Called, Ran};
@@ -12,7 +13,7 @@ use stream::Form;
 use tracing::{Arrived, Judged, arrival_at, form_of, judge};
 
 // How a replay ended, and how many messages are listed.
-#[derive(Drop)]
+#[derive(Clone, Copy)]
 pub struct Replayed {
     pub outcome: Outcome,
     pub count: usize,

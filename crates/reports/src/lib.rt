@@ -1,4 +1,5 @@
 // What the programs say besides their output: refusals by number and name, the verdict, and how far they are.
+#![tactic(auto)]
 use decimal::put_decimal;
 use libc::{STDERR_FILENO, STDOUT_FILENO};
 use placing::{put_byte, put_bytes};
@@ -44,7 +45,7 @@ pub fn say(line: &[u8]) {
 }
 
 // The place that follows in an output, and whether writing it failed.
-#[derive(Drop)]
+#[derive(Clone, Copy)]
 pub struct Spilled {
     pub place: usize,
     pub failed: bool,

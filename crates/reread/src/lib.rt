@@ -1,11 +1,12 @@
 // Standard input for a program that reads it twice, first to judge it and then to work on it: the file itself, or a copy of it
 // where it is a pipe or a terminal. The copy goes to a file in /tmp that has no name by the time it is read.
+#![tactic(auto)]
 ghost use Rattle.std.specs.Prelude.{◌+◌};
 
 use libc::{SEEK_CUR, SEEK_SET, STDIN_FILENO};
 
 // A descriptor and the position that its bytes begin at. It is below 0 where there is none, and standard error says why.
-#[derive(Drop)]
+#[derive(Clone, Copy)]
 pub struct Input {
     pub fd: i32,
     pub start: i64,
@@ -82,7 +83,7 @@ fn copy_all(fd: i32) -> bool {
 }
 
 // How many bytes of a window are filled, whether the input ends with them, and whether reading failed.
-#[derive(Drop)]
+#[derive(Clone, Copy)]
 pub struct Filled {
     pub count: usize,
     pub ended: bool,
@@ -133,7 +134,7 @@ pub fn front(input: Input, window: &mut [u8]) -> Filled {
 
 // What of an input stands in a window, from where to where; whether the input ends with it, and whether reading failed; and how often
 // the window was filled.
-#[derive(Drop)]
+#[derive(Clone, Copy)]
 pub struct View {
     pub start: usize,
     pub end: usize,

@@ -1,5 +1,6 @@
 // A datagram read straight into a lent slice of numbers, the flat form of its packet, with no packet made of it: a first walk
 // judges the datagram and counts its options, and a second one puts them and judges nothing again.
+#![tactic(auto)]
 ghost use Rattle.std.specs.Prelude.{◌≡◌, Bool, ◌+◌, ◌*◌, ◌≤◌, ◌<◌, length, set};
 ghost use Rattle.std.proofs.lemmas.List.Edits.{sets};
 ghost use Rattle.refusal.specs.Answer.{outcome, after};
@@ -15,7 +16,7 @@ use reading::{longest_value, marker_alone, opening};
 use refusal::{Outcome, Refusal};
 
 // What a datagram holds: how many options, where they end, and where the payload starts.
-#[derive(Drop)]
+#[derive(Clone, Copy)]
 pub enum Extent {
     Message {
         count: usize,
@@ -236,7 +237,7 @@ fn put_options<'a>(
 }
 
 // A delta or a length, and the position after its extension.
-#[derive(Drop)]
+#[derive(Clone, Copy)]
 struct Extension {
     value: usize,
     next: usize,

@@ -1,4 +1,5 @@
 // Records of a packet replaced by new ones: what every edit of options does, once it knows between which places.
+#![tactic(auto)]
 ghost use Rattle.std.specs.Prelude.{◌≡◌, map, ◌/◌, min, length};
 ghost use Rattle.refusal.specs.Answer.{given, refused};
 ghost use Rattle.refusal.specs.Number.{number_of};
@@ -11,7 +12,7 @@ use packet::{Home, OptionRecord, Packet};
 use refusal::{Outcome, Refusal};
 
 // What an edit answers. The packet of a refused edit is the one that came.
-#[derive(Drop)]
+#[derive(Clone, Copy)]
 pub struct Edited {
     pub outcome: Outcome,
     pub packet: Packet,

@@ -1,4 +1,5 @@
 // Freeze streams in two forms, judged message by message. A message is read where it stands, with no list of what was found.
+#![tactic(auto)]
 ghost use Rattle.std.specs.Prelude.{◌≡◌, ◌+◌, ◌≤◌, min, length};
 ghost use Rattle.ground.specs.Part.{part};
 ghost use Rattle.option_reading.specs.Answers.{ByteAt};
@@ -10,14 +11,14 @@ use packet::limits::FULL_SIZE;
 use refusal::Refusal;
 
 // The two forms of a stream: chunks of 30 bytes, all records of one size; or chunks of up to 64.
-#[derive(Drop)]
+#[derive(Clone, Copy)]
 pub enum Form {
     Old,
     New,
 }
 
 // What a stream holds: how many messages, and how many bytes their datagrams have together.
-#[derive(Drop)]
+#[derive(Clone, Copy)]
 pub enum Judged {
     Messages { count: usize, bytes: usize },
     Refused(Refusal),
@@ -53,7 +54,7 @@ pub fn judge_from(form: Form, stream: &[u8], from: usize) -> Judged
 }
 
 // A message: how many bytes its datagram has, and the position after it. Its peer stands one byte after its own position.
-#[derive(Drop)]
+#[derive(Clone, Copy)]
 pub enum Step {
     Message { len: usize, next: usize },
     Refused(Refusal),
@@ -118,7 +119,7 @@ fn body_at(form: Form, stream: &[u8], from: usize) -> Step
 }
 
 // A chunk: how many bytes it carries.
-#[derive(Drop)]
+#[derive(Clone, Copy)]
 enum Chunk {
     Of(usize),
     Bad,

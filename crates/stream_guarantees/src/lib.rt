@@ -1,1 +1,2 @@
 // No code: what may be relied on stands in specs/, and its proof in proofs/.
+#![tactic(auto)]

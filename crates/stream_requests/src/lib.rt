@@ -1,4 +1,5 @@
 // Requests on freeze streams: a message frozen, a stream thawed, and a stream converted to the other form.
+#![tactic(auto)]
 mod frozen;
 mod shown;
 mod thawed;
@@ -40,7 +41,7 @@ pub fn answer(
 }
 
 // A form, and where its word ends.
-#[derive(Drop)]
+#[derive(Clone, Copy)]
 pub struct Formed {
     pub form: Form,
     pub next: usize,

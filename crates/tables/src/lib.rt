@@ -1,4 +1,5 @@
 // The option numbers and content formats that have names, and where a number stands among them.
+#![tactic(auto)]
 ghost use Rattle.std.specs.Prelude.{◌≡◌};
 ghost use Rattle.ground.specs.Table.{listed};
 ghost use Rattle.tables.specs.Numbers.{option_numbers, content_formats};
@@ -8,7 +9,7 @@ pub mod content_format;
 pub mod option_number;
 
 // Where a number stands in a table, counted from 0.
-#[derive(Drop)]
+#[derive(Clone, Copy)]
 pub enum Place {
     At(usize),
     Unlisted,

@@ -1,4 +1,5 @@
 // The path and query text of a coap URI as a new packet, whose values stand in the edit store (RFC 7252, section 6.4).
+#![tactic(auto)]
 ghost use Rattle.std.specs.Prelude.{◌≡◌, ◌-◌, ◌≤◌, length, take, drop};
 ghost use Rattle.placing.specs.Put.{Put};
 ghost use Rattle.percent.specs.Step.{kind_of};
@@ -13,7 +14,7 @@ use tables::option_number::{URI_PATH, URI_QUERY};
 use uri_text::{Tallied, judge_text, part_end};
 
 // What reading a text says of it.
-#[derive(Drop)]
+#[derive(Clone, Copy)]
 pub enum Verdict {
     Passes,
     Refused(Refusal),
@@ -22,7 +23,7 @@ pub enum Verdict {
 }
 
 // What reading a text answers: what it says of the text, and the packet; beside a refusal stands the new packet.
-#[derive(Drop)]
+#[derive(Clone, Copy)]
 pub struct TargetRead {
     pub outcome: Verdict,
     pub packet: Packet,
@@ -75,7 +76,7 @@ fn put_target(text: &[u8], edits: &mut [u8], start: u32, count: usize, bytes: us
 }
 
 // Records as they are made: the first `count` of these, and the place after their values.
-#[derive(Drop)]
+#[derive(Clone, Copy)]
 struct Filled {
     options: [OptionRecord; MAX_OPTIONS],
     count: usize,

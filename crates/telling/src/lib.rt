@@ -1,10 +1,11 @@
 // An answer by value, and how it is put at a place of the output: a word, up to four numbers, and what comes after them.
+#![tactic(auto)]
 ghost use Rattle.std.specs.Prelude.{◌<◌};
 
 use class::MessageClass;
 use class_words::put_class;
 use decimal::put_decimal;
-use hex::put_hex;
+use hexadecimal::put_hex;
 use placing::{put_byte, put_bytes};
 use refusal::{Refusal, Written};
 use words::{part, place_in};
@@ -62,7 +63,7 @@ const CHANGED: usize = 29;
 const NOTHING: usize = 30;
 
 // What comes after the numbers of an answer.
-#[derive(Drop)]
+#[derive(Clone, Copy)]
 pub enum Tail {
     Nothing,
     // How many leading zero bytes a value has.
@@ -78,7 +79,7 @@ pub enum Tail {
     Letters(usize),
 }
 
-#[derive(Drop)]
+#[derive(Clone, Copy)]
 pub struct Told {
     word: usize,
     count: usize,

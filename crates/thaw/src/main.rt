@@ -1,6 +1,7 @@
 // Thaws a freeze stream: reads it on standard input, in either form, and writes the form and the messages to standard output,
 // for each its peer and the lines that `listing` has. A refused stream gives one line, which says why and for which message. The
 // stream is read twice, so it may be of any length; from a pipe it is first copied to /tmp, and the room there bounds it.
+#![tactic(auto)]
 use passes::{Work, form_of, pass};
 use placing::put_bytes;
 use refusal::Outcome;

@@ -1,5 +1,6 @@
 // Messages out of a freeze stream: one after the other, or all of them with a list. A datagram's chunks lie apart in the stream, so
 // it is copied to a lent output.
+#![tactic(auto)]
 ghost use Rattle.std.specs.Prelude.{◌≡◌, ◌<◌, ◌≤◌, length};
 ghost use Rattle.std.proofs.lemmas.List.Edits.{sets};
 ghost use Rattle.packet.specs.Limits.{full_size};
@@ -46,7 +47,7 @@ pub fn thaw(form: Form, stream: &[u8], list: &mut [usize], out: &mut [u8]) -> Wr
 
 // What a stream of strict datagrams holds: how many messages, how many bytes their datagrams have together, and how many chunks
 // these take in a form.
-#[derive(Drop)]
+#[derive(Clone, Copy)]
 pub enum Strict {
     Messages {
         count: usize,

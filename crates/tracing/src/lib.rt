@@ -1,5 +1,6 @@
 // Traces: a freeze stream of either form with a time before each message. A trace is judged as a whole, and read message by message
 // where it stands.
+#![tactic(auto)]
 ghost use Rattle.std.specs.Prelude.{◌≡◌, ◌+◌, ◌<◌, ◌≤◌, length};
 ghost use Rattle.ground.specs.Part.{part};
 ghost use Rattle.refusal.specs.Answer.{refused, onward, outcome, beside};
@@ -29,7 +30,7 @@ pub fn form_of(trace: &[u8]) -> Form
 }
 
 // What a trace holds: how many messages.
-#[derive(Drop)]
+#[derive(Clone, Copy)]
 pub enum Judged {
     Messages(usize),
     Refused(Refusal),
@@ -101,7 +102,7 @@ pub fn strict_timed_at(form: Form, trace: &[u8], at: usize) -> Step
 
 // A message with its time: how many bytes its datagram has, and the position after it. Its peer stands six bytes after its own
 // position.
-#[derive(Drop)]
+#[derive(Clone, Copy)]
 pub enum TimedStep {
     Message { time: u32, len: usize, next: usize },
     Refused(Refusal),
@@ -126,7 +127,7 @@ pub fn timed_at(form: Form, trace: &[u8], at: usize) -> TimedStep
 
 // A message as the duplicate rule asks for it: when it came, its type, its peer and its id; and the position after it. Beside a
 // refusal all are 0.
-#[derive(Drop)]
+#[derive(Clone, Copy)]
 pub struct Arrived {
     pub outcome: Outcome,
     pub time: u32,

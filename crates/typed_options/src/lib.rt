@@ -1,4 +1,5 @@
 // The content format and Observe of a packet: what their options say, and setting them (packet.rs).
+#![tactic(auto)]
 ghost use Rattle.rfc.specs.Uint.{uint};
 ghost use Rattle.refusal.specs.Answer.{answered};
 ghost use Rattle.packet.specs.Packet.{stores};
@@ -33,7 +34,7 @@ pub fn set_content_format(packet: Packet, edits: &mut [u8], start: u32, format: 
 
 // The content format of a packet: a listed one, or none. Beside either stands how many leading zero bytes were read, which
 // is 0 where there was no value, or one of more than two bytes.
-#[derive(Drop)]
+#[derive(Clone, Copy)]
 pub enum ContentFormat {
     Format { format: u16, zeros: usize },
     None { zeros: usize },
@@ -78,7 +79,7 @@ pub fn set_observe_value(packet: Packet, edits: &mut [u8], start: u32, value: u3
 }
 
 // The value of Observe in a packet, with how many leading zero bytes were read. An absent one has none.
-#[derive(Drop)]
+#[derive(Clone, Copy)]
 pub enum Observe {
     Value { value: u32, zeros: usize },
     None,

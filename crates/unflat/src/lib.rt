@@ -1,4 +1,5 @@
 // A packet taken out of its flat form, which may stand at the start of a longer slice.
+#![tactic(auto)]
 ghost use Rattle.std.specs.Prelude.{◌≡◌, Bool, ◌+◌, ◌*◌, ◌≤◌, length, get_or};
 ghost use Rattle.refusal.specs.Answer.{beside};
 ghost use Rattle.packet.specs.Packet.{new_packet};
@@ -11,7 +12,7 @@ use packet::{Home, OptionRecord, Packet, Range};
 use refusal::{Outcome, Refusal};
 
 // What taking a packet out of numbers answers. Beside a refusal stands the new packet.
-#[derive(Drop)]
+#[derive(Clone, Copy)]
 pub struct Taken {
     pub outcome: Outcome,
     pub packet: Packet,

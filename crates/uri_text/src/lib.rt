@@ -1,4 +1,5 @@
 // The path and query text of a coap URI, judged part by part: how many options it makes, and how many bytes their values have.
+#![tactic(auto)]
 ghost use Rattle.std.specs.Prelude.{◌≡◌, ◌+◌, ◌<◌, eqb, length, drop};
 ghost use Rattle.ground.specs.Choice.{both};
 ghost use Rattle.rfc.specs.Uri.{segment};
@@ -57,7 +58,7 @@ fn is_dotted(kind: Kind, len: usize, only: bool) -> bool
 }
 
 // How long a part's value is, or which rule it breaks.
-#[derive(Drop)]
+#[derive(Clone, Copy)]
 pub enum Judged {
     Length(usize),
     BadText,
@@ -131,7 +132,7 @@ pub fn part_end(text: &[u8], from: usize, separator: u8) -> usize
 }
 
 // What parts come to: how many values, and how many bytes these have together; or which rule the first bad part breaks.
-#[derive(Drop)]
+#[derive(Clone, Copy)]
 pub enum Tallied {
     Values { count: usize, bytes: usize },
     BadText,

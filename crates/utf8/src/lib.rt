@@ -1,11 +1,12 @@
 // UTF-8 text: the bytes are judged one by one, by the row of the grammar that a first byte has (RFC 3629, section 4).
+#![tactic(auto)]
 ghost use Rattle.std.specs.Prelude.{◌≡◌};
 ghost use Rattle.utf8.specs.Walk.{text, lead};
 ghost use Rattle.utf8.specs.Row.{led_by};
 
 // What the first byte of a character calls for: a count of further bytes, and the lowest and the highest that the next
 // of them may be; or it begins no character.
-#[derive(Drop)]
+#[derive(Clone, Copy)]
 pub enum Lead {
     Due(u8, u8, u8),
     Never,

@@ -1,4 +1,5 @@
 // Requests on uints, texts and the numbers of options and content formats.
+#![tactic(auto)]
 mod numbers;
 mod texts;
 mod uints;

@@ -1,8 +1,9 @@
 // How far a pass over an input has come, message by message through a window.
+#![tactic(auto)]
 use refusal::{Outcome, Refusal};
 use reports::{flushed, spill};
 
-#[derive(Drop)]
+#[derive(Clone, Copy)]
 pub struct Walk {
     // How many messages were passed.
     pub messages: u64,

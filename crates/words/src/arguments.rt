@@ -4,7 +4,7 @@ use crate::line::{NOWHERE, finished};
 use crate::numbers::number_at;
 
 // One to four numbers that end a line, and how many there are; 0 where it ends otherwise.
-#[derive(Drop)]
+#[derive(Clone, Copy)]
 pub struct Numbers {
     pub count: usize,
     pub first: u64,
@@ -46,7 +46,7 @@ fn count_of(line: &[u8], first: usize, second: usize, third: usize, fourth: usiz
 
 // Bytes that end a line and stand at the start of the store: how many numbers come before them, none or one, that number,
 // and how many bytes there are. Where a line ends otherwise, the count is NOWHERE.
-#[derive(Drop)]
+#[derive(Clone, Copy)]
 pub struct Value {
     pub count: usize,
     pub number: u64,

@@ -1,11 +1,11 @@
 // Bytes, as hexadecimal digits or as a number of zeros.
 use crate::line::{NOWHERE, after, byte_at, digits_end, part, past};
 use crate::numbers::number_at;
-use hex::put_unhexed;
+use hexadecimal::put_unhexed;
 use refusal::{Refusal, Written};
 
 // Bytes that were put into a store: the place after them, NOWHERE if they find no place in it, and where their word ends.
-#[derive(Drop)]
+#[derive(Clone, Copy)]
 pub struct Bytes {
     pub end: usize,
     pub next: usize,
@@ -86,7 +86,7 @@ fn place_after(place: usize, count: usize) -> usize {
 }
 
 // A peer's bytes, and where its word ends.
-#[derive(Drop)]
+#[derive(Clone, Copy)]
 pub struct Peer {
     pub bytes: [u8; 18],
     pub next: usize,

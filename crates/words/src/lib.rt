@@ -1,6 +1,7 @@
 // The words of a line. Each is read from the byte that stands before it: a space, or a comma or a colon inside a list.
 // What is not there ends NOWHERE, and nothing is found from there on, so a row of readings is judged by where its last
 // one ends. A line has one newline, which is its last byte.
+#![tactic(auto)]
 mod arguments;
 mod bytes;
 mod line;

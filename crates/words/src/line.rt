@@ -1,5 +1,5 @@
 // A line's bytes, by position.
-use hex::hex_digit_of;
+use hexadecimal::hex_digit_of;
 
 // Where what is not there ends.
 pub const NOWHERE: usize = 18446744073709551615;

@@ -2,7 +2,7 @@
 use crate::line::{NOWHERE, after, ended};
 
 // Which name of a list a word is, counted from 0, and where the word ends.
-#[derive(Drop)]
+#[derive(Clone, Copy)]
 pub struct Named {
     pub index: usize,
     pub next: usize,
@@ -33,7 +33,7 @@ pub fn name_at(line: &[u8], at: usize, names: &[u8]) -> Named {
 }
 
 // Where a name stands in a list.
-#[derive(Drop)]
+#[derive(Clone, Copy)]
 pub struct Place {
     pub start: usize,
     pub end: usize,

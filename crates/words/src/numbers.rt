@@ -3,7 +3,7 @@ use crate::line::{NOWHERE, after, digits_end, part};
 use decimal::{Decimal, decimal_in};
 
 // A number, and where its word ends.
-#[derive(Drop)]
+#[derive(Clone, Copy)]
 pub struct Number {
     pub value: u64,
     pub next: usize,

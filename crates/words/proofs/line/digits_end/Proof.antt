@@ -6,7 +6,7 @@ use Rattle.words.proofs.line.digits_end.Statement.{statement}
 use Rattle.words.proofs.line.digits_end.Tie as tie
 use Rattle.words.proofs.line.digits_end.Reads as reads
 use Rattle.words.proofs.line.digits_end.Lts as lts
-use Rattle.hex.proofs.hex_digit_of.Reads as hex-digit-of-reads
+use Rattle.hexadecimal.proofs.hex_digit_of.Reads as hex-digit-of-reads
 
 abbrev invariant-loop : tie.invariant-loop
 invariant-loop line at most i₀ i = i ≤ i

@@ -3,12 +3,12 @@ use mathlib.Core.Bool.{true}
 use mathlib.Core.Path.{◌≡◌, sym, ◌∙◌}
 use native.Mathlib.Omega.{arith}
 use borrow.Author.Tests.{not-true, not-false}
-use Rattle.hex.specs.Hex.{is_hex}
-use Rattle.hex.proofs.Digits.{hex_digits_lem}
-use Rattle.hex.proofs.Laws.{unhex-bad, unhex-room, unhex-put}
+use Rattle.hexadecimal.specs.Hex.{is_hex}
+use Rattle.hexadecimal.proofs.Digits.{hex_digits_lem}
+use Rattle.hexadecimal.proofs.Laws.{unhex-bad, unhex-room, unhex-put}
 use borrow.Author.Rules.{rules}
-use Rattle.hex.proofs.put_unhexed.Statement.{statement}
-use Rattle.hex.proofs.put_unhexed.Tie as tie
+use Rattle.hexadecimal.proofs.put_unhexed.Statement.{statement}
+use Rattle.hexadecimal.proofs.put_unhexed.Tie as tie
 
 is-hex-requires : tie.Need-is-hex-requires
 is-hex-requires c κs = search rules

@@ -1,7 +1,7 @@
 -- `put_hex_byte` meets its contract: what is put is the two digits.
 use borrow.Author.Rules.{rules}
-use Rattle.hex.proofs.put_hex_byte.Statement.{statement}
-use Rattle.hex.proofs.put_hex_byte.Tie as tie
+use Rattle.hexadecimal.proofs.put_hex_byte.Statement.{statement}
+use Rattle.hexadecimal.proofs.put_hex_byte.Tie as tie
 
 hex-digit-requires : tie.Need-hex-digit-requires
 hex-digit-requires c κs = search rules

@@ -12,8 +12,8 @@ use Rattle.refusal.specs.Answer.{given, refused, after}
 use Rattle.refusal.proofs.Fitted.{no_place}
 use Rattle.placing.specs.Put.{Puts}
 use Rattle.placing.proofs.Puts.{puts_placed}
-use Rattle.hex.specs.Hex.{hex_digit, hex_digits, hex, digit_of, all_digits, is_hex, pairs, unhex, unhex_into}
-use Rattle.hex.proofs.Digits.{of_decimal, of_letter, length_pairs}
+use Rattle.hexadecimal.specs.Hex.{hex_digit, hex_digits, hex, digit_of, all_digits, is_hex, pairs, unhex, unhex_into}
+use Rattle.hexadecimal.proofs.Digits.{of_decimal, of_letter, length_pairs}
 
 -- Two digits for each byte.
 pub digits_size : (bytes : List ℕ) → length (hex_digits bytes) ≡ 2 * length bytes

@@ -3,10 +3,10 @@ use Prim.Native.Nat.{◌-◌, ◌*◌, ◌+◌, ◌<◌, ◌≤◌}
 use native.Mathlib.Omega.{arith}
 use lib.ListN.{length, drop}
 use Rattle.placing.proofs.Puts.{Putting, putting_start, putting_turn, putting_end}
-use Rattle.hex.specs.Hex.{pairs}
-use Rattle.hex.proofs.Digits.{digit_at, pairs_more, pairs_end}
-use Rattle.hex.proofs.put_pairs.Statement.{statement}
-use Rattle.hex.proofs.put_pairs.Tie as tie
+use Rattle.hexadecimal.specs.Hex.{pairs}
+use Rattle.hexadecimal.proofs.Digits.{digit_at, pairs_more, pairs_end}
+use Rattle.hexadecimal.proofs.put_pairs.Statement.{statement}
+use Rattle.hexadecimal.proofs.put_pairs.Tie as tie
 
 abbrev invariant-loop : tie.invariant-loop
 invariant-loop out₀ at text count next₀ i₀ out next i = (i ≤ count) × Putting out₀ at (pairs text) out next (pairs (drop (2 * i) text))

@@ -1,8 +1,8 @@
 -- `hex_digit` meets its contract: by the test that led to each answer.
 use borrow.Author.Tests.{lt-ltb, le-ltb}
 use borrow.Author.Rules.{rules}
-use Rattle.hex.proofs.hex_digit.Statement.{statement}
-use Rattle.hex.proofs.hex_digit.Tie as tie
+use Rattle.hexadecimal.proofs.hex_digit.Statement.{statement}
+use Rattle.hexadecimal.proofs.hex_digit.Tie as tie
 
 add-result : tie.Need-overflow-add-result
 add-result c = search rules

@@ -10,7 +10,7 @@ use lib.ListN.{length, drop, get_or, length-drop, drop_of_length-le}
 use lib.Seq.{drop-cons}
 use borrow.Author.Tests.{le-leb, lt-leb, lt-ltb, le-ltb, ltb-true}
 use Rattle.ground.proofs.Choice.{both_true}
-use Rattle.hex.specs.Hex.{hex_digits, hex, digit_of, all_digits, is_hex, pairs}
+use Rattle.hexadecimal.specs.Hex.{hex_digits, hex, digit_of, all_digits, is_hex, pairs}
 
 -- A decimal digit, a letter, and any other byte.
 pub of_decimal : (b : ℕ) → 48 ≤ b → b ≤ 57 → digit_of b ≡ b - 48

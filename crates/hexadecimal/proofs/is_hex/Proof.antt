@@ -3,10 +3,10 @@ use Prim.Native.Nat.{◌-◌, ◌<◌, ◌≤◌}
 use mathlib.Core.Path.{◌≡◌, refl, ◌∙◌}
 use native.Mathlib.Omega.{arith}
 use lib.ListN.{length, drop}
-use Rattle.hex.specs.Hex.{all_digits}
-use Rattle.hex.proofs.Digits.{all_more, all_not, all_end}
-use Rattle.hex.proofs.is_hex.Statement.{statement}
-use Rattle.hex.proofs.is_hex.Tie as tie
+use Rattle.hexadecimal.specs.Hex.{all_digits}
+use Rattle.hexadecimal.proofs.Digits.{all_more, all_not, all_end}
+use Rattle.hexadecimal.proofs.is_hex.Statement.{statement}
+use Rattle.hexadecimal.proofs.is_hex.Tie as tie
 
 abbrev invariant-loop : tie.invariant-loop
 invariant-loop text i₀ i = (i ≤ length text) × (all_digits text ≡ all_digits (drop i text))

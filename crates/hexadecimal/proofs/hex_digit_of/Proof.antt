@@ -1,10 +1,10 @@
 -- `hex_digit_of` meets its contract: each range of bytes has its law.
 use mathlib.Core.Path.{sym}
 use native.Mathlib.Omega.{arith}
-use Rattle.hex.proofs.Digits.{of_decimal, of_letter, of_below, of_between, of_above}
+use Rattle.hexadecimal.proofs.Digits.{of_decimal, of_letter, of_below, of_between, of_above}
 use borrow.Author.Rules.{rules}
-use Rattle.hex.proofs.hex_digit_of.Statement.{statement}
-use Rattle.hex.proofs.hex_digit_of.Tie as tie
+use Rattle.hexadecimal.proofs.hex_digit_of.Statement.{statement}
+use Rattle.hexadecimal.proofs.hex_digit_of.Tie as tie
 
 add-result : tie.Need-overflow-add-result
 add-result c = search rules

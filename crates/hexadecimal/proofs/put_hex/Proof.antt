@@ -6,10 +6,10 @@ use native.Mathlib.Omega.{arith}
 use lib.ListN.{length, drop, drop_of_length-le}
 use lib.Seq.{drop-cons}
 use Rattle.placing.proofs.Puts.{Putting, puts_length, putting_start, putting_turn, putting_end}
-use Rattle.hex.specs.Hex.{hex, hex_digits}
-use Rattle.hex.proofs.Digits.{hex_none, hex_some}
-use Rattle.hex.proofs.put_hex.Statement.{statement}
-use Rattle.hex.proofs.put_hex.Tie as tie
+use Rattle.hexadecimal.specs.Hex.{hex, hex_digits}
+use Rattle.hexadecimal.proofs.Digits.{hex_none, hex_some}
+use Rattle.hexadecimal.proofs.put_hex.Statement.{statement}
+use Rattle.hexadecimal.proofs.put_hex.Tie as tie
 
 abbrev invariant-loop : tie.invariant-loop
 invariant-loop out₀ at bytes next₀ i₀ out next i = (i ≤ length bytes) × Putting out₀ at (hex bytes) out next (hex_digits (drop i bytes))

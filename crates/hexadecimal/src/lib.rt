@@ -1,8 +1,9 @@
 // Bytes as hexadecimal text, both ways: put into a lent output as digits, and put as bytes that digits stand for.
+#![tactic(auto)]
 ghost use Rattle.std.specs.Prelude.{◌≡◌, true, ◌<◌, length};
 ghost use Rattle.refusal.specs.Answer.{written, after};
 ghost use Rattle.placing.specs.Put.{Puts};
-ghost use Rattle.hex.specs.Hex.{hex_digit, hex_byte, hex, digit_of, all_digits, is_hex, pairs, unhex_into};
+ghost use Rattle.hexadecimal.specs.Hex.{hex_digit, hex_byte, hex, digit_of, all_digits, is_hex, pairs, unhex_into};
 
 use refusal::{Refusal, Written};
 
