@@ -1,5 +1,6 @@
 // Answers requests: reads them on standard input, one to a line, and writes one answer to a line to standard output.
 #![tactic(auto)]
+
 use libc::STDIN_FILENO;
 use pieces::Kept;
 use words::part;

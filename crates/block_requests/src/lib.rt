@@ -1,5 +1,6 @@
 // Requests on block values, each in a plain and a strict form.
 #![tactic(auto)]
+
 use block_value::{BlockBuilt, BlockRead, BlockSize, BlockValue};
 use refusal::Written;
 use telling::{BLOCK, SIZE, Told};

@@ -1,5 +1,6 @@
 // The value of a Block option, plain as deployed peers have it and strict as RFC 7959 has it.
 #![tactic(auto)]
+
 ghost use Rattle.std.specs.Prelude.{◌≡◌, ◌<◌, length};
 ghost use Rattle.rfc.specs.Block.{block_number, block_of, block_bytes};
 ghost use Rattle.ground.specs.Table.{listed};

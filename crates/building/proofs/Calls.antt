@@ -21,7 +21,7 @@ use Rattle.refusal.specs.declared.Refusal.TheVariants.{TooLong, BadRecord}
 use Rattle.refusal.proofs.Answers.{not_refused, same_given}
 use Rattle.header.specs.declared.Header.{Header}
 use Rattle.laying.specs.Laying.{Lays, LaysHeader, LaysOption, LaysPayload, laid, head_layout, laid_header, laid_option}
-use Rattle.laying.proofs.Laid.{lays-refused, laid_judged, judged_given}
+use Rattle.laying.proofs.Laid.{lays_refused, laid_judged, judged_given}
 use Rattle.building.specs.Building.{built_of, Builds, Starts, Adds, Ends, empty_in, start_judged, starting, adding, sent_by, ending, bare_refusal, bare_end}
 use Rattle.building.specs.declared.Builder.{Builder}
 use Rattle.building.specs.declared.Built.{Built}
@@ -39,15 +39,15 @@ same_after (refused k) f at bytes old = refl
 
 -- A call that goes on with what a piece answers.
 module _ (b : Answer ℕ) (at : ℕ) (bytes old : List ℕ) (r : Written) (new : List ℕ) (p : Lays b at bytes old r new) where
-  pub builds-by : (f : ℕ → Builder) (a : Answer Builder) → a ≡ onward b (λ n. given (f n)) → (x : Built) → built_of x ≡ onward (written r) (λ n. given (f n)) → Builds a at bytes old x new
-  builds-by f a e x w =
+  pub builds_by : (f : ℕ → Builder) (a : Answer Builder) → a ≡ onward b (λ n. given (f n)) → (x : Built) → built_of x ≡ onward (written r) (λ n. given (f n)) → Builds a at bytes old x new
+  builds_by f a e x w =
       record {
         answer = w ∙ (ap (λ (c : Answer ℕ). onward c (λ n. given (f n))) p.answer ∙ sym e);
         output = p.output ∙ (same_after b f at bytes old ∙ ap (λ (c : Answer Builder). after c at bytes old) (sym e));
       }
 
-  pub lays-by : (f : ℕ → ℕ) (a : Answer ℕ) → a ≡ onward b (λ n. given (f n)) → (x : Written) → written x ≡ onward (written r) (λ n. given (f n)) → Lays a at bytes old x new
-  lays-by f a e x w =
+  pub lays_by : (f : ℕ → ℕ) (a : Answer ℕ) → a ≡ onward b (λ n. given (f n)) → (x : Written) → written x ≡ onward (written r) (λ n. given (f n)) → Lays a at bytes old x new
+  lays_by f a e x w =
       record {
         answer = w ∙ (ap (λ (c : Answer ℕ). onward c (λ n. given (f n))) p.answer ∙ sym e);
         output = p.output ∙ (same_after b f at bytes old ∙ ap (λ (c : Answer ℕ). after c at bytes old) (sym e));
@@ -76,24 +76,24 @@ module _ (strict : Bool) (h : Header) (token : List ℕ) (e : start_judged stric
       let P : Answer (Unit {0}) → Type 0 = λ b. b ≡ given tt → (h.version ≤ 3) × (length token ≤ 15) in
       on_lt P 3 h.version (λ v q. not_refused (sym q)) (λ v. on_lt P 15 (length token) (λ t q. not_refused (sym q)) (λ t q. (v, t))) e
 
-  starting-laid : (room : ℕ) → starting strict h token room ≡ onward (laid_header h token room) (λ n. given (headed_to strict h n))
+  starting_laid : (room : ℕ) → starting strict h token room ≡ onward (laid_header h token room) (λ n. given (headed_to strict h n))
   unfolding laid_header
-  starting-laid room =
+  starting_laid room =
       rw (e, le-ltb 3 h.version in_range_lem.0, le-ltb 15 (length token) in_range_lem.1)
       (on_refusal (ltb room (0 + length (head_layout h token))) 12 _ _ _ refl)
 
-  pub start-by : (old : List ℕ) (w : Written) (new : List ℕ) → LaysHeader h token old w new → (r : Built) → built_of r ≡ onward (written w) (λ n. given (headed_to strict h n)) → Starts strict h token old r new
-  start-by old w new p r q = builds-by _ 0 _ old w new p (headed_to strict h) _ (starting-laid (length old)) r q
+  pub start_by : (old : List ℕ) (w : Written) (new : List ℕ) → LaysHeader h token old w new → (r : Built) → built_of r ≡ onward (written w) (λ n. given (headed_to strict h n)) → Starts strict h token old r new
+  start_by old w new p r q = builds_by _ 0 _ old w new p (headed_to strict h) _ (starting_laid (length old)) r q
 
 -- An option: none left, in an empty message, or by its own answer.
 module _ (b : Builder) (o : Opt) (old : List ℕ) where
-  pub option-none-left : b.left ≡ 0 → Adds b o old (Refused BadRecord) old
+  pub option_none_left : b.left ≡ 0 → Adds b o old (Refused BadRecord) old
   unfolding adding
-  option-none-left l = builds_refused _ _ _ old 11 _ refl (rw (eq-eqb b.left 0 l))
+  option_none_left l = builds_refused _ _ _ old 11 _ refl (rw (eq-eqb b.left 0 l))
 
-  pub option-bare : (b.left ≡ 0 → ⊥) → both b.strict b.empty ≡ true → (e : Refusal) → number_of e ≡ bare_refusal b.before o.number (length o.value) → Adds b o old (Refused e) old
+  pub option_bare : (b.left ≡ 0 → ⊥) → both b.strict b.empty ≡ true → (e : Refusal) → number_of e ≡ bare_refusal b.before o.number (length o.value) → Adds b o old (Refused e) old
   unfolding adding bare_refusal
-  option-bare l s e n =
+  option_bare l s e n =
       builds_refused _ _ _ old (number_of e) _ refl
       (rw (ne_eqb b.left 0 l, s) (first_of (ltb o.number b.before) (ltb 65804 (length o.value)) ∙ ap refused (sym n)))
     where
@@ -102,16 +102,16 @@ module _ (b : Builder) (o : Opt) (old : List ℕ) where
       first_of false true = refl
       first_of false false = refl
 
-  adding-laid : (b.left ≡ 0 → ⊥) → both b.strict b.empty ≡ false → adding b o (length old) ≡ onward (laid_option b.before o (length old) b.at) (λ n. given (added_to b o.number n))
+  adding_laid : (b.left ≡ 0 → ⊥) → both b.strict b.empty ≡ false → adding b o (length old) ≡ onward (laid_option b.before o (length old) b.at) (λ n. given (added_to b o.number n))
   unfolding adding laid_option
-  adding-laid l s =
+  adding_laid l s =
       rw (ne_eqb b.left 0 l, s)
       (on_refusal (ltb o.number b.before) 11 _ _ _
       (on_refusal (ltb 65804 (length o.value)) 11 _ _ _
       (on_refusal (ltb (length old) (b.at + length (option_layout b.before o))) 12 _ _ _ refl)))
 
-  pub option-by : (b.left ≡ 0 → ⊥) → both b.strict b.empty ≡ false → (w : Written) (new : List ℕ) → LaysOption b.before o b.at old w new → (r : Built) → built_of r ≡ onward (written w) (λ n. given (added_to b o.number n)) → Adds b o old r new
-  option-by l s w new p r q = builds-by _ b.at _ old w new p (added_to b o.number) _ (adding-laid l s) r q
+  pub option_by : (b.left ≡ 0 → ⊥) → both b.strict b.empty ≡ false → (w : Written) (new : List ℕ) → LaysOption b.before o b.at old w new → (r : Built) → built_of r ≡ onward (written w) (λ n. given (added_to b o.number n)) → Adds b o old r new
+  option_by l s w new p r q = builds_by _ b.at _ old w new p (added_to b o.number) _ (adding_laid l s) r q
 
 -- What an option takes ends within the output.
 pub option_within : (b : Builder) (o : Opt) (room n : ℕ) → laid_option b.before o room b.at ≡ given n → b.at + n ≤ room
@@ -121,13 +121,13 @@ option_within b o room n e =
 
 -- The payload: too long, of an empty message, or by its own answer.
 module _ (b : Builder) (payload old : List ℕ) where
-  pub payload-long : 70000 < length payload → Ends b payload old (Refused' TooLong) old
+  pub payload_long : 70000 < length payload → Ends b payload old (Refused' TooLong) old
   unfolding ending
-  payload-long l = lays-refused _ _ _ old 10 _ refl (rw (lt-ltb 70000 (length payload) l))
+  payload_long l = lays_refused _ _ _ old 10 _ refl (rw (lt-ltb 70000 (length payload) l))
 
-  pub payload-bare : length payload ≤ 70000 → b.empty ≡ true → (r : Written) → written r ≡ bare_end b.strict b.at (length payload) (length old) → Ends b payload old r old
+  pub payload_bare : length payload ≤ 70000 → b.empty ≡ true → (r : Written) → written r ≡ bare_end b.strict b.at (length payload) (length old) → Ends b payload old r old
   unfolding ending bare_end
-  payload-bare l e r w =
+  payload_bare l e r w =
       let is : ending b payload (length old) ≡ bare_end b.strict b.at (length payload) (length old) = rw (le-ltb 70000 (length payload) l, e, add-zero b.at) in
       record { answer = w ∙ sym is; output = subst (λ (x : Bool). old ≡ after (ending b payload (length old)) b.at (payload_layout (sent_by x payload)) old) (sym e) (nothing_put (ending b payload (length old))) }
     where
@@ -135,16 +135,16 @@ module _ (b : Builder) (payload old : List ℕ) where
       nothing_put (given n) = refl
       nothing_put (refused k) = refl
 
-  ending-laid : length payload ≤ 70000 → b.empty ≡ false → ending b payload (length old) ≡ onward (laid (length old) b.at (payload_layout payload)) (λ n. given (b.at + n))
+  ending_laid : length payload ≤ 70000 → b.empty ≡ false → ending b payload (length old) ≡ onward (laid (length old) b.at (payload_layout payload)) (λ n. given (b.at + n))
   unfolding ending
-  ending-laid l e =
+  ending_laid l e =
       rw (le-ltb 70000 (length payload) l, e)
       (on_refusal (ltb (length old) (b.at + length (payload_layout payload))) 12 _ _ _ refl)
 
-  pub payload-by : length payload ≤ 70000 → b.empty ≡ false → (w : Written) (new : List ℕ) → LaysPayload payload b.at old w new → (r : Written) → written r ≡ onward (written w) (λ n. given (b.at + n)) → Ends b payload old r new
-  payload-by l e w new p r q =
+  pub payload_by : length payload ≤ 70000 → b.empty ≡ false → (w : Written) (new : List ℕ) → LaysPayload payload b.at old w new → (r : Written) → written r ≡ onward (written w) (λ n. given (b.at + n)) → Ends b payload old r new
+  payload_by l e w new p r q =
       subst (λ (x : Bool). Lays (ending b payload (length old)) b.at (payload_layout (sent_by x payload)) old r new) (sym e)
-      (lays-by _ b.at _ old w new p (λ n. b.at + n) _ (ending-laid l e) r q)
+      (lays_by _ b.at _ old w new p (λ n. b.at + n) _ (ending_laid l e) r q)
 
 pub payload_within : (b : Builder) (payload : List ℕ) (room n : ℕ) → laid room b.at (payload_layout payload) ≡ given n → b.at + n ≤ room
 payload_within b payload room n =

@@ -2,6 +2,7 @@
 // is the caller's to keep between the calls, as a small builder by value; each call judges and counts before it puts a byte, so
 // that a refused call changes nothing.
 #![tactic(auto)]
+
 ghost use Rattle.std.specs.Prelude.{◌≡◌};
 ghost use Rattle.ground.specs.Choice.{both};
 ghost use Rattle.refusal.specs.Number.{number_of};

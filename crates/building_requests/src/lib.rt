@@ -1,5 +1,6 @@
 // Requests to build a message call by call, in a room whose bytes are known before.
 #![tactic(auto)]
+
 mod calls;
 mod options;
 

@@ -15,7 +15,7 @@ use Rattle.reading.specs.Headed.{good_header, headed}
 use Rattle.stream.specs.declared.Form.{Form}
 use Rattle.stream.specs.Stream.{full, head_size}
 use Rattle.chunk_judging.specs.Chunks.{offset, gathered}
-use Rattle.chunk_judging.proofs.Places.{first_ends, first_holds, gathered-length, gathered-front}
+use Rattle.chunk_judging.proofs.Places.{first_ends, first_holds, gathered_length, gathered_front}
 
 -- A header before at least 8 bytes, be they more or fewer.
 good_alike : (a b : List ℕ) → 12 ≤ length a → 12 ≤ length b → (raw : HeaderRaw) → good_header true a raw ≡ good_header true b raw
@@ -48,8 +48,8 @@ pub chunk_headed : (form : Form) (s : List ℕ) (from len head n : ℕ) → head
     → headed true (take (from + head + n - (from + head)) (drop (from + head) s)) ≡ headed true (gathered form s from len)
 chunk_headed form s from len head n e few some short inside =
     let g : List ℕ = gathered form s from len in
-    let l : length g ≡ len = gathered-length form s from len in
+    let l : length g ≡ len = gathered_length form s from len in
     let k : from + head + n - (from + head) ≡ n = omega arith in
     let ends : from + head_size form + n ≤ length s = omega (arith, first_ends form len some) in
     rw (k, e)
-    (ap (headed true) (gathered-front form s from len n (omega arith) (omega arith) ends) ∙ headed_front n g (omega (arith, first_holds form len)) (omega arith))
+    (ap (headed true) (gathered_front form s from len n (omega arith) (omega arith) ends) ∙ headed_front n g (omega (arith, first_holds form len)) (omega arith))

@@ -47,9 +47,9 @@ first_holds Old len = omega arith
 first_holds New len = omega arith
 
 module _ (form : Form) (s : List ℕ) (from : ℕ) where
-  from-length : (i n : ℕ) → length (bytes_from form s from i n) ≡ n
-  from-length i zero = refl
-  from-length i (suc n) = ap suc (from-length (suc i) n)
+  from_length : (i n : ℕ) → length (bytes_from form s from i n) ≡ n
+  from_length i zero = refl
+  from_length i (suc n) = ap suc (from_length (suc i) n)
 
   from_at : (i n k : ℕ) → k < n → get_or (bytes_from form s from i n) k 0 ≡ get_or s (from + offset form (i + k)) 0
   from_at i zero k h = absurd (omega arith)
@@ -61,62 +61,62 @@ module _ (form : Form) (s : List ℕ) (from : ℕ) where
   from_bytes h i zero = tt
   from_bytes h i (suc n) = (h (from + offset form i), from_bytes h (suc i) n)
 
-  pub gathered-length : (len : ℕ) → length (gathered form s from len) ≡ len
+  pub gathered_length : (len : ℕ) → length (gathered form s from len) ≡ len
   unfolding gathered
-  gathered-length len = from-length 0 len
+  gathered_length len = from_length 0 len
 
-  pub gathered-at : (len i : ℕ) → i < len → get_or (gathered form s from len) i 0 ≡ get_or s (from + offset form i) 0
+  pub gathered_at : (len i : ℕ) → i < len → get_or (gathered form s from len) i 0 ≡ get_or s (from + offset form i) 0
   unfolding gathered
-  gathered-at len i h = from_at 0 len i h ∙ ap (λ (j : ℕ). get_or s (from + offset form j) 0) (omega arith)
+  gathered_at len i h = from_at 0 len i h ∙ ap (λ (j : ℕ). get_or s (from + offset form j) 0) (omega arith)
 
-  pub gathered-bytes : ((k : ℕ) → get_or s k 0 < 256) → (len : ℕ) → Bytes (gathered form s from len)
+  pub gathered_bytes : ((k : ℕ) → get_or s k 0 < 256) → (len : ℕ) → Bytes (gathered form s from len)
   unfolding gathered
-  gathered-bytes h len = from_bytes h 0 len
+  gathered_bytes h len = from_bytes h 0 len
 
   -- What stands in the first chunk is the front of the datagram.
-  pub gathered-front : (len n : ℕ) → n ≤ len → n ≤ full form → from + head_size form + n ≤ length s → part s (from + head_size form) n ≡ take n (gathered form s from len)
-  gathered-front len n few small inside =
+  pub gathered_front : (len n : ℕ) → n ≤ len → n ≤ full form → from + head_size form + n ≤ length s → part s (from + head_size form) n ≡ take n (gathered form s from len)
+  gathered_front len n few small inside =
       let at : ℕ = from + head_size form in
       let g : List ℕ = gathered form s from len in
       let l : length (part s at n) ≡ n = part_length s at n inside in
-      ext_get_or 0 (part s at n) (take n g) (l ∙ omega (arith, length-take n g, gathered-length len))
+      ext_get_or 0 (part s at n) (take n g) (l ∙ omega (arith, length-take n g, gathered_length len))
       (λ i h.
       let k : i < n = omega (arith, h, l) in
       let o : from + head_size form + i ≡ from + offset form i = omega (arith, offset_first form i (omega arith)) in
       get_or-take n (drop at s) i 0 k
       ∙ (get_or-drop at s i 0
       ∙ (ap (λ (j : ℕ). get_or s j 0) o
-      ∙ (sym (gathered-at len i (omega arith)) ∙ sym (get_or-take n g i 0 k)))))
+      ∙ (sym (gathered_at len i (omega arith)) ∙ sym (get_or-take n g i 0 k)))))
 
   -- Whether the last byte lies past the stream.
-  pub past-none : (len : ℕ) → len < 1 → past form s from len ≡ false
+  pub past_none : (len : ℕ) → len < 1 → past form s from len ≡ false
   unfolding past
-  past-none len h = rw (le-ltb 0 len (omega arith)) refl
+  past_none len h = rw (le-ltb 0 len (omega arith)) refl
 
-  pub past-over : (len : ℕ) → 1 ≤ len → length s ≤ from + offset form (len - 1) → past form s from len ≡ true
+  pub past_over : (len : ℕ) → 1 ≤ len → length s ≤ from + offset form (len - 1) → past form s from len ≡ true
   unfolding past
-  past-over len h l = rw (lt-ltb 0 len (omega arith), le-leb (length s) (from + offset form (len - 1)) l) refl
+  past_over len h l = rw (lt-ltb 0 len (omega arith), le-leb (length s) (from + offset form (len - 1)) l) refl
 
-  pub past-within : (len : ℕ) → 1 ≤ len → from + offset form (len - 1) < length s → past form s from len ≡ false
+  pub past_within : (len : ℕ) → 1 ≤ len → from + offset form (len - 1) < length s → past form s from len ≡ false
   unfolding past
-  past-within len h l = rw (lt-ltb 0 len (omega arith), lt-leb (length s) (from + offset form (len - 1)) l) refl
+  past_within len h l = rw (lt-ltb 0 len (omega arith), lt-leb (length s) (from + offset form (len - 1)) l) refl
 
-  pub past-last : (len : ℕ) → 1 ≤ len → from ≤ length s → leb (length s - from) (offset form (len - 1)) ≡ past form s from len
-  past-last len h l =
+  pub past_last : (len : ℕ) → 1 ≤ len → from ≤ length s → leb (length s - from) (offset form (len - 1)) ≡ past form s from len
+  past_last len h l =
       let o : ℕ = offset form (len - 1) in
       by_lt (from + o) (length s)
-      (λ i. lt-leb (length s - from) o (omega arith) ∙ sym (past-within len h i))
-      (λ i. le-leb (length s - from) o (omega arith) ∙ sym (past-over len h i))
+      (λ i. lt-leb (length s - from) o (omega arith) ∙ sym (past_within len h i))
+      (λ i. le-leb (length s - from) o (omega arith) ∙ sym (past_over len h i))
 
-  pub past-not : (len : ℕ) → 1 ≤ len → past form s from len ≡ false → from + offset form (len - 1) < length s
+  pub past_not : (len : ℕ) → 1 ≤ len → past form s from len ≡ false → from + offset form (len - 1) < length s
   unfolding past
-  past-not len h e = leb-false (length s) (from + offset form (len - 1)) (not_both (ltb 0 len) (leb (length s) (from + offset form (len - 1))) e (lt-ltb 0 len h))
+  past_not len h e = leb-false (length s) (from + offset form (len - 1)) (not_both (ltb 0 len) (leb (length s) (from + offset form (len - 1))) e (lt-ltb 0 len h))
 
   -- What judging says: 19 for a last byte past the stream, else what strict reading says.
-  pub judged-past : (len : ℕ) → past form s from len ≡ true → refused 19 ≡ judged_at form s from len
+  pub judged_past : (len : ℕ) → past form s from len ≡ true → refused 19 ≡ judged_at form s from len
   unfolding judged_at
-  judged-past len e = rw e refl
+  judged_past len e = rw e refl
 
-  pub judged-bytes : (len : ℕ) → past form s from len ≡ false → accepting true (gathered form s from len) ≡ judged_at form s from len
+  pub judged_bytes : (len : ℕ) → past form s from len ≡ false → accepting true (gathered form s from len) ≡ judged_at form s from len
   unfolding judged_at
-  judged-bytes len e = rw e refl
+  judged_bytes len e = rw e refl

@@ -1,6 +1,7 @@
 // Strict reading's judgement of a datagram that lies in chunks of a freeze stream, read where they lie: no byte is copied, and no
 // packet is made.
 #![tactic(auto)]
+
 ghost use Rattle.std.specs.Prelude.{true, ◌≡◌, ◌+◌, ◌≤◌, ◌<◌, ◌^◌};
 ghost use Rattle.refusal.specs.Answer.{outcome, onward};
 ghost use Rattle.refusal.specs.Number.{number_of};

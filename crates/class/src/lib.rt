@@ -1,5 +1,6 @@
 // The class of a code byte: the request and response codes that have names, and every other byte as reserved.
 #![tactic(auto)]
+
 ghost use Rattle.std.specs.Prelude.{◌≡◌, leb};
 ghost use Rattle.class.specs.Class.{byte_of, byte_of_request, byte_of_response, class_of};
 

@@ -1,5 +1,6 @@
 // Code classes and headers as words. A class is named as the enum names it, with a dot before what it holds.
 #![tactic(auto)]
+
 use class::{MessageClass, RequestType, ResponseType};
 use header::{Header, MessageType};
 use lines::put_number;

@@ -1,5 +1,6 @@
 // Code bytes as text: class, one dot, detail.
 #![tactic(auto)]
+
 ghost use Rattle.std.specs.Prelude.{◌≡◌};
 ghost use Rattle.decimal.specs.Decimal.{decimal_of};
 ghost use Rattle.code_text.specs.CodeText.{numeral_at, dot_in, code_in, code_text, code_of};

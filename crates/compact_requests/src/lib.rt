@@ -1,5 +1,6 @@
 // The request to compact a raw packet, with a second buffer whose bytes are known before.
 #![tactic(auto)]
+
 mod compacted;
 
 use packet_words::EDITS;

@@ -32,18 +32,18 @@ module _ (lengths : Lengths) (room : ℕ) (p : Packet) where
   too_long t = rw t refl
 
   module _ (t : is_too_long lengths ≡ false) where
-    pub bad-record : bad_packet lengths p ≡ true → refused 11 ≡ compacting lengths room p
+    pub bad_record : bad_packet lengths p ≡ true → refused 11 ≡ compacting lengths room p
     unfolding compacting
-    bad-record b = rw (t, b) refl
+    bad_record b = rw (t, b) refl
 
     module _ (b : bad_packet lengths p ≡ false) (n : ℕ) (e : n ≡ live_length p) where
-      pub full-edits : lengths.edits < n → refused 12 ≡ compacting lengths room p
+      pub full_edits : lengths.edits < n → refused 12 ≡ compacting lengths room p
       unfolding compacting
-      full-edits h = rw (t, b, lt-ltb lengths.edits (live_length p) (rw e at h)) refl
+      full_edits h = rw (t, b, lt-ltb lengths.edits (live_length p) (rw e at h)) refl
 
-      pub full-second : room < n → refused 12 ≡ compacting lengths room p
+      pub full_second : room < n → refused 12 ≡ compacting lengths room p
       unfolding compacting
-      full-second h =
+      full_second h =
           rw (t, b, either_right (ltb lengths.edits (live_length p)) (ltb room (live_length p)) (lt-ltb room (live_length p) (rw e at h))) refl
 
       pub ends : n ≤ lengths.edits → n ≤ room → given n ≡ compacting lengths room p
@@ -110,8 +110,8 @@ module _ (p : Packet) (s : Stores) (second : List ℕ) where
           ap (λ (k : ℕ). take k newSecond) (sym long ∙ sym (gathered.next ∙ zero-add (length (live_bytes s p))))
           ∙ puts_front q (omega (arith, long, facts.second))
 
-      pub end-inside : n ≤ length newSecond
-      end-inside = omega (arith, facts.second, puts_length q)
+      pub end_inside : n ≤ length newSecond
+      end_inside = omega (arith, facts.second, puts_length q)
 
       -- Copied back, they are all that changes in the edit store.
       pub compacts : (k : ℕ) (newEdits : List ℕ) → Puts s.edits 0 (take n newSecond) k newEdits → (q : Packet) → q ≡ relocated p

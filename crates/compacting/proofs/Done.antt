@@ -14,14 +14,14 @@ use Rattle.packet.specs.Limits.{max_store, max_options}
 use Rattle.packet.specs.Packet.{Stores, stores, records_of}
 use Rattle.packet.specs.declared.Packet.{Packet}
 use Rattle.judging.specs.Judge.{lengths_of, is_too_long}
-use Rattle.judging.proofs.Good.{Good, good, not-bad}
+use Rattle.judging.proofs.Good.{Good, good, not_bad}
 use Rattle.judging.proofs.Order.{in_use}
 use Rattle.compacting.specs.Compacting.{live_bytes, relocated, compacting, Compacts}
 use Rattle.compacting.specs.declared.Compacted.{Compacted}
 use Rattle.compacting.proofs.Answers.{Fits, fits, ends, short_edits}
 use Rattle.compacting.proofs.Live.{live_length_lem}
-use Rattle.compacting.proofs.Relaid.{relocated-sum, relocated-good}
-use Rattle.compacting.proofs.Kept.{live-kept}
+use Rattle.compacting.proofs.Relaid.{relocated_sum, relocated_good}
+use Rattle.compacting.proofs.Kept.{live_kept}
 
 -- Two stores of at most 70,000 bytes.
 pub short_stores : (d e : List ℕ) → length d ≤ max_store → length e ≤ max_store → is_too_long (lengths_of (stores d e)) ≡ false
@@ -61,23 +61,23 @@ module _ (p : Packet) (array : length p.options ≡ max_options) (s : Stores) (s
   pub counted : length (records_of p) ≡ p.count
   counted = in_use p array w.good.count
 
-  pub same-room : length newEdits ≡ length s.edits
-  same-room = ap length w.edits ∙ (length-append (live_bytes s p) (drop n s.edits) ∙ omega (arith, w.long, w.fits.edits, length-drop n s.edits))
+  pub same_room : length newEdits ≡ length s.edits
+  same_room = ap length w.edits ∙ (length-append (live_bytes s p) (drop n s.edits) ∙ omega (arith, w.long, w.fits.edits, length-drop n s.edits))
 
   module _ (d : List ℕ) (short : length d ≤ max_store) where
     abbrev then : Stores
     then = stores d newEdits
 
-    pub short-then : is_too_long (lengths_of then) ≡ false
-    short-then = short_stores d newEdits short (omega (arith, same-room, short_edits (lengths_of s) w.fits.short))
+    pub short_then : is_too_long (lengths_of then) ≡ false
+    short_then = short_stores d newEdits short (omega (arith, same_room, short_edits (lengths_of s) w.fits.short))
 
-    pub good-then : Good (lengths_of then) (relocated p)
-    good-then = relocated-good p counted (lengths_of s) (lengths_of then) w.good (omega (arith, same-room, w.fits.sum, w.fits.edits))
+    pub good_then : Good (lengths_of then) (relocated p)
+    good_then = relocated_good p counted (lengths_of s) (lengths_of then) w.good (omega (arith, same_room, w.fits.sum, w.fits.edits))
 
     pub again : (room : ℕ) → n ≤ room → compacting (lengths_of then) room (relocated p) ≡ given n
     again room h =
-        sym (ends (lengths_of then) room (relocated p) short-then (not-bad (lengths_of then) (relocated p) good-then) n (w.fits.sum ∙ sym (relocated-sum p counted))
-        (omega (arith, same-room, w.fits.edits)) h)
+        sym (ends (lengths_of then) room (relocated p) short_then (not_bad (lengths_of then) (relocated p) good_then) n (w.fits.sum ∙ sym (relocated_sum p counted))
+        (omega (arith, same_room, w.fits.edits)) h)
 
     pub live_then : live_bytes then (relocated p) ≡ live_bytes s p
-    live_then = live-kept s p w.good counted d newEdits (drop n s.edits) w.edits
+    live_then = live_kept s p w.good counted d newEdits (drop n s.edits) w.edits

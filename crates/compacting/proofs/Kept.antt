@@ -19,7 +19,7 @@ use Rattle.judging.proofs.Good.{Good}
 use Rattle.compacting.specs.Compacting.{values_of, live_bytes, values_length, relaid, relocated}
 use Rattle.judging.proofs.Ranges.{range_exactly, value_exactly}
 use Rattle.compacting.proofs.Live.{values_exactly}
-use Rattle.compacting.proofs.Relaid.{relocated-records}
+use Rattle.compacting.proofs.Relaid.{relocated_records}
 
 -- What stands between two parts of a store is named by their lengths.
 bytes_between : (t a b c : List ℕ) (at len : ℕ) → t ≡ a ++ (b ++ c) → length a ≡ at → length b ≡ len → bytes_in t at len ≡ b
@@ -30,17 +30,17 @@ bytes_between t a b c at len e h k =
 
 module _ (s : Stores) (d t : List ℕ) where
   -- Each record that is relaid has its value in a store where the values stand end to end.
-  options-kept : (at : ℕ) (rs : List OptionRecord) (a c : List ℕ) → bad_values (lengths_of s) rs ≡ false → length a ≡ at → t ≡ a ++ (values_of s rs ++ c)
+  options_kept : (at : ℕ) (rs : List OptionRecord) (a c : List ℕ) → bad_values (lengths_of s) rs ≡ false → length a ≡ at → t ≡ a ++ (values_of s rs ++ c)
       → (map (option_of (stores d t)) (relaid at rs) ≡ map (option_of s) rs) × (values_of (stores d t) (relaid at rs) ≡ values_of s rs)
-  options-kept at [] a c g h e = (refl, refl)
-  options-kept at (r ∷ rs) a c g h e =
+  options_kept at [] a c g h e = (refl, refl)
+  options_kept at (r ∷ rs) a c g h e =
       let both = neither (bad_value (lengths_of s) r) (bad_values (lengths_of s) rs) g in
       let v = value_of s r in
       let n = value_exactly s r both.0 in
       let e₁ : t ≡ a ++ (v ++ (values_of s rs ++ c)) = e ∙ ap (λ (l : List ℕ). a ++ l) (append_assoc v (values_of s rs) c) in
       let e₂ : t ≡ (a ++ v) ++ (values_of s rs ++ c) = e₁ ∙ sym (append_assoc a v (values_of s rs ++ c)) in
       let value : bytes_in t at r.len ≡ v = bytes_between t a v (values_of s rs ++ c) at r.len e₁ h n in
-      let more = options-kept (at + r.len) rs (a ++ v) c both.1 (length-append a v ∙ omega (arith, h, n)) e₂ in
+      let more = options_kept (at + r.len) rs (a ++ v) c both.1 (length-append a v ∙ omega (arith, h, n)) e₂ in
       (λ k. record { number = r.number; value = value k } ∷ more.0 k, λ k. value k ++ more.1 k)
 
 module _ (s : Stores) (p : Packet) (g : Good (lengths_of s) p) (used : length (records_of p) ≡ p.count) (d t rest : List ℕ) (e : t ≡ live_bytes s p ++ rest) where
@@ -53,43 +53,43 @@ module _ (s : Stores) (p : Packet) (g : Good (lengths_of s) p) (used : length (r
   abbrev payload : List ℕ
   payload = bytes_of s p.payload
 
-  token-long : length token ≡ p.token.len
-  token-long = range_exactly s p.token g.token
+  token_long : length token ≡ p.token.len
+  token_long = range_exactly s p.token g.token
 
   whole : t ≡ token ++ (values ++ (payload ++ rest))
   whole = e ∙ (append_assoc token (values ++ payload) rest ∙ ap (λ (l : List ℕ). token ++ l) (append_assoc values payload rest))
 
-  token-kept : bytes_in t 0 p.token.len ≡ token
-  token-kept = bytes_between t [] token (values ++ (payload ++ rest)) 0 p.token.len whole refl token-long
+  token_kept : bytes_in t 0 p.token.len ≡ token
+  token_kept = bytes_between t [] token (values ++ (payload ++ rest)) 0 p.token.len whole refl token_long
 
-  payload-kept : bytes_in t (p.token.len + values_length (records_of p)) p.payload.len ≡ payload
-  payload-kept =
+  payload_kept : bytes_in t (p.token.len + values_length (records_of p)) p.payload.len ≡ payload
+  payload_kept =
       bytes_between t (token ++ values) payload rest (p.token.len + values_length (records_of p)) p.payload.len
       (whole ∙ sym (append_assoc token values (payload ++ rest)))
-      (length-append token values ∙ omega (arith, token-long, values_exactly s (records_of p) g.values))
+      (length-append token values ∙ omega (arith, token_long, values_exactly s (records_of p) g.values))
       (range_exactly s p.payload g.payload)
 
-  values-stay : (map (option_of (stores d t)) (relaid p.token.len (records_of p)) ≡ map (option_of s) (records_of p)) × (values_of (stores d t) (relaid p.token.len (records_of p)) ≡ values)
-  values-stay = options-kept s d t p.token.len (records_of p) token (payload ++ rest) g.values token-long whole
+  values_stay : (map (option_of (stores d t)) (relaid p.token.len (records_of p)) ≡ map (option_of s) (records_of p)) × (values_of (stores d t) (relaid p.token.len (records_of p)) ≡ values)
+  values_stay = options_kept s d t p.token.len (records_of p) token (payload ++ rest) g.values token_long whole
 
-  pub options-stay : map (option_of (stores d t)) (records_of (relocated p)) ≡ map (option_of s) (records_of p)
-  options-stay = ap (map (option_of (stores d t))) (relocated-records p used) ∙ values-stay.0
+  pub options_stay : map (option_of (stores d t)) (records_of (relocated p)) ≡ map (option_of s) (records_of p)
+  options_stay = ap (map (option_of (stores d t))) (relocated_records p used) ∙ values_stay.0
 
   -- The meaning is the same.
-  pub meaning-kept : meaning (stores d t) (relocated p) ≡ meaning s p
-  meaning-kept =
+  pub meaning_kept : meaning (stores d t) (relocated p) ≡ meaning s p
+  meaning_kept =
       λ k. record {
         version = p.header.version;
         type = number_of_type p.header.message_type;
         code = byte_of p.header.code;
         id = p.header.message_id;
-        token = token-kept k;
-        options = options-stay k;
-        payload = payload-kept k;
+        token = token_kept k;
+        options = options_stay k;
+        payload = payload_kept k;
       }
 
   -- And so are the live bytes.
-  pub live-kept : live_bytes (stores d t) (relocated p) ≡ live_bytes s p
-  live-kept =
-      let v : values_of (stores d t) (records_of (relocated p)) ≡ values = ap (values_of (stores d t)) (relocated-records p used) ∙ values-stay.1 in
-      λ k. token-kept k ++ (v k ++ payload-kept k)
+  pub live_kept : live_bytes (stores d t) (relocated p) ≡ live_bytes s p
+  live_kept =
+      let v : values_of (stores d t) (records_of (relocated p)) ≡ values = ap (values_of (stores d t)) (relocated_records p used) ∙ values_stay.1 in
+      λ k. token_kept k ++ (v k ++ payload_kept k)

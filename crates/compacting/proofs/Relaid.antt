@@ -17,7 +17,7 @@ use Rattle.packet.specs.declared.Packet.{Packet}
 use Rattle.packet.specs.declared.OptionRecord.{OptionRecord}
 use Rattle.judging.specs.Judge.{outside, falling, bad_value, bad_values, option_size, options_size}
 use Rattle.judging.specs.declared.Lengths.{Lengths}
-use Rattle.judging.proofs.Good.{Good, value-length}
+use Rattle.judging.proofs.Good.{Good, value_length}
 use Rattle.compacting.specs.Compacting.{values_length, live_length, in_edits, moved_to, relaid, relocated}
 
 pub relaid_length : (at : ℕ) (rs : List OptionRecord) → length (relaid at rs) ≡ length rs
@@ -48,7 +48,7 @@ relaid_values was then at [] e h = refl
 relaid_values was then at (r ∷ rs) e h =
     let both = neither (bad_value was r) (bad_values was rs) e in
     let inside : outside then (range_of (moved_to at r)) ≡ false = le-ltb then.edits (at + r.len) (omega arith) in
-    let short : ltb max_value r.len ≡ false = le-ltb max_value r.len (value-length was r both.0) in
+    let short : ltb max_value r.len ≡ false = le-ltb max_value r.len (value_length was r both.0) in
     none_of (bad_value then (moved_to at r)) (bad_values then (relaid (at + r.len) rs)) (none_of (outside then (range_of (moved_to at r))) (ltb max_value r.len) inside short) (relaid_values was then (at + r.len) rs both.1 (omega arith))
 
 -- The packet with its ranges rewritten, whose array holds all records that it counts.
@@ -56,20 +56,20 @@ module _ (p : Packet) (used : length (records_of p) ≡ p.count) where
   abbrev records : List OptionRecord
   records = relaid p.token.len (records_of p)
 
-  pub relocated-records : records_of (relocated p) ≡ records
-  relocated-records =
+  pub relocated_records : records_of (relocated p) ≡ records
+  relocated_records =
       take_at records (replicate (max_options - length (records_of p)) none) p.count (relaid_length p.token.len (records_of p) ∙ used)
 
-  pub relocated-sum : live_length (relocated p) ≡ live_length p
-  relocated-sum =
-      ap (λ (n : ℕ). p.token.len + (n + p.payload.len)) (ap values_length relocated-records ∙ relaid_sum p.token.len (records_of p))
+  pub relocated_sum : live_length (relocated p) ≡ live_length p
+  relocated_sum =
+      ap (λ (n : ℕ). p.token.len + (n + p.payload.len)) (ap values_length relocated_records ∙ relaid_sum p.token.len (records_of p))
 
   -- A second time changes nothing.
-  pub relocated-again : relocated (relocated p) ≡ relocated p
-  relocated-again =
-      let again : relaid p.token.len (records_of (relocated p)) ≡ records = ap (relaid p.token.len) relocated-records ∙ relaid_again p.token.len (records_of p) in
-      let count : length (records_of (relocated p)) ≡ length (records_of p) = ap length relocated-records ∙ relaid_length p.token.len (records_of p) in
-      let sum : values_length (records_of (relocated p)) ≡ values_length (records_of p) = ap values_length relocated-records ∙ relaid_sum p.token.len (records_of p) in
+  pub relocated_again : relocated (relocated p) ≡ relocated p
+  relocated_again =
+      let again : relaid p.token.len (records_of (relocated p)) ≡ records = ap (relaid p.token.len) relocated_records ∙ relaid_again p.token.len (records_of p) in
+      let count : length (records_of (relocated p)) ≡ length (records_of p) = ap length relocated_records ∙ relaid_length p.token.len (records_of p) in
+      let sum : values_length (records_of (relocated p)) ≡ values_length (records_of p) = ap values_length relocated_records ∙ relaid_sum p.token.len (records_of p) in
       λ k. record {
         header = p.header;
         token = in_edits 0 p.token.len;
@@ -79,14 +79,14 @@ module _ (p : Packet) (used : length (records_of p) ≡ p.count) where
       }
 
   -- A good packet stays good, beside an edit store that holds the sum of its lengths.
-  pub relocated-good : (was then : Lengths) → Good was p → live_length p ≤ then.edits → Good then (relocated p)
-  relocated-good was then g h =
+  pub relocated_good : (was then : Lengths) → Good was p → live_length p ≤ then.edits → Good then (relocated p)
+  relocated_good was then g h =
       record {
         version = g.version;
         count = g.count;
-        ordered = ap (falling 0) relocated-records ∙ (relaid_falling 0 p.token.len (records_of p) ∙ g.ordered);
+        ordered = ap (falling 0) relocated_records ∙ (relaid_falling 0 p.token.len (records_of p) ∙ g.ordered);
         token = omega arith;
         payload = omega arith;
         token_length = g.token_length;
-        values = ap (bad_values then) relocated-records ∙ relaid_values was then p.token.len (records_of p) g.values (omega arith);
+        values = ap (bad_values then) relocated_records ∙ relaid_values was then p.token.len (records_of p) g.values (omega arith);
       }

@@ -1,5 +1,6 @@
 // Compaction of a packet: its live bytes moved to the front of the edit store, so that dead bytes are given back.
 #![tactic(auto)]
+
 ghost use Rattle.std.specs.Prelude.{◌≡◌, ◌<◌, ◌≤◌, length};
 ghost use Rattle.refusal.specs.Answer.{written};
 ghost use Rattle.placing.specs.Put.{Puts};

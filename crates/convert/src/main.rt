@@ -2,6 +2,7 @@
 // verdict goes to standard error, and nothing is written of a stream that is refused. The stream is read twice, so it may be of
 // any length; from a pipe it is first copied to /tmp, and the room there bounds it.
 #![tactic(auto)]
+
 use passes::{Work, form_of, pass};
 use placing::put_bytes;
 use refusal::Outcome;

@@ -27,15 +27,15 @@ module _ (from to : Form) (s : List ℕ) where
     pub rest : List Frozen
     pub left : Left from s at rest
     pub put : Putting old 0 (stream_of to l) out place (stream_of to rest)
-    pub array-is : length array ≡ full_size
+    pub array_is : length array ≡ full_size
 
-  pub put-start : (old array : List ℕ) → length array ≡ full_size → (g : Convertible from to s (length old)) → PutWalk g.messages old old array 0 0
-  put-start old array a g =
-      record { rest = g.messages; left = left_start from s g.messages g.are; put = putting_start old 0 (stream_of to g.messages); array-is = a }
+  pub put_start : (old array : List ℕ) → length array ≡ full_size → (g : Convertible from to s (length old)) → PutWalk g.messages old old array 0 0
+  put_start old array a g =
+      record { rest = g.messages; left = left_start from s g.messages g.are; put = putting_start old 0 (stream_of to g.messages); array_is = a }
 
   module _ (l : List Frozen) (old out array : List ℕ) (at place : ℕ) (w : PutWalk l old out array at place) where
-    pub put-ends : length s ≤ at → length (stream_of to l) ≤ length old → Put old 0 (stream_of to l) place out
-    put-ends h b =
+    pub put_ends : length s ≤ at → length (stream_of to l) ≤ length old → Put old 0 (stream_of to l) place out
+    put_ends h b =
         let z : w.rest ≡ [] = left_none from s at w.rest w.left h in
         puts_whole (putting_end w.put (ap (stream_of to) z)) (omega arith)
 
@@ -58,11 +58,11 @@ module _ (from to : Form) (s : List ℕ) where
         pub size : length newer ≡ full_size
         pub peer : take (at + 19 - (at + 1)) (drop (at + 1) s) ≡ first.message.peer
         pub inside : at + 19 ≤ length s
-        pub next-is : next ≡ at + length (message_of from first.message)
+        pub next_is : next ≡ at + length (message_of from first.message)
         pub onwards : at < next
 
-      pub put-given : (r : Step) (len next : ℕ) (newer : List ℕ) → r ≡ Message len next → NextMessage from s at array 0 r newer → Given len next newer
-      put-given r len next newer e n =
+      pub put_given : (r : Step) (len next : ℕ) (newer : List ℕ) → r ≡ Message len next → NextMessage from s at array 0 r newer → Given len next newer
+      put_given r len next newer e n =
           let d : List ℕ = first.message.datagram in
           let t = taken from s at w.rest first array 0 fits len next newer (rw e at n) in
           let z : length newer ≡ full_size = ap length t.out ∙ (length-sets array 0 d ∙ w.array-is) in
@@ -75,18 +75,18 @@ module _ (from to : Form) (s : List ℕ) where
             size = z;
             peer = ap (λ (i : ℕ). take i (drop (at + 1) s)) k ∙ first.peer;
             inside = first.inside;
-            next-is = t.next-is;
+            next_is = t.next-is;
             onwards = omega (arith, t.next-is, message_some from first.message);
           }
 
-      pub put-turn : (len next : ℕ) (newer newOut : List ℕ) (r : ℕ) (peer datagram : List ℕ) → (g : Given len next newer) → peer ≡ first.message.peer → datagram ≡ first.message.datagram
+      pub put_turn : (len next : ℕ) (newer newOut : List ℕ) (r : ℕ) (peer datagram : List ℕ) → (g : Given len next newer) → peer ≡ first.message.peer → datagram ≡ first.message.datagram
           → Puts out place (message_of to (record { peer = peer; datagram = datagram })) r newOut → PutWalk l old newOut newer next r
-      put-turn len next newer newOut r peer datagram g p d q =
+      put_turn len next newer newOut r peer datagram g p d q =
           let m : ◌≡◌ {A = Frozen} (record { peer = peer; datagram = datagram }) first.message =
           ap (λ (x : List ℕ). record { peer = x; datagram = datagram }) p ∙ ap (λ (x : List ℕ). record { peer = first.message.peer; datagram = x }) d in
           record {
             rest = first.others;
             left = rw g.next-is first.left;
             put = putting_turn w.put (ap (stream_of to) first.is) (subst (λ (x : Frozen). Puts out place (message_of to x) r newOut) m q);
-            array-is = g.size;
+            array_is = g.size;
           }

@@ -32,14 +32,14 @@ module _ (count bytes chunks room : ℕ) where
   pub none_left : (form : Form) → room / 20 < count → false ≡ leb (size_in form count bytes chunks) room
   none_left form h = sym (lt-leb (size_in form count bytes chunks) room (omega (arith, size_least form count bytes chunks)))
 
-  pub old-left : count ≤ room / 20 → leb chunks ((room - 20 * count) / 32) ≡ leb (size_in Old count bytes chunks) room
-  old-left h = same_leb chunks ((room - 20 * count) / 32) (size_in Old count bytes chunks) room (λ a. omega arith) (λ a. omega arith)
+  pub old_left : count ≤ room / 20 → leb chunks ((room - 20 * count) / 32) ≡ leb (size_in Old count bytes chunks) room
+  old_left h = same_leb chunks ((room - 20 * count) / 32) (size_in Old count bytes chunks) room (λ a. omega arith) (λ a. omega arith)
 
   pub new_none : count ≤ room / 20 → room - 20 * count < bytes → false ≡ leb (size_in New count bytes chunks) room
   new_none h k = sym (lt-leb (size_in New count bytes chunks) room (omega arith))
 
-  pub new-left : count ≤ room / 20 → bytes ≤ room - 20 * count → leb chunks (room - 20 * count - bytes) ≡ leb (size_in New count bytes chunks) room
-  new-left h k = same_leb chunks (room - 20 * count - bytes) (size_in New count bytes chunks) room (λ a. omega arith) (λ a. omega arith)
+  pub new_left : count ≤ room / 20 → bytes ≤ room - 20 * count → leb chunks (room - 20 * count - bytes) ≡ leb (size_in New count bytes chunks) room
+  new_left h k = same_leb chunks (room - 20 * count - bytes) (size_in New count bytes chunks) room (λ a. omega arith) (λ a. omega arith)
 
 pub stream_size : (form : Form) (l : List Frozen) → AllSized l → length (stream_of form l) ≡ size_in form (length l) (length (datagrams_of l)) (chunks_in form l)
 stream_size Old [] z = refl

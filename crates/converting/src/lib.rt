@@ -1,5 +1,6 @@
 // A freeze stream written in the other form, message by message.
 #![tactic(auto)]
+
 ghost use Rattle.std.specs.Prelude.{◌≡◌, length, leb};
 ghost use Rattle.framing.specs.Framing.{Converts};
 ghost use Rattle.placing.specs.Put.{Put};

@@ -20,32 +20,32 @@ module _ (s : List ℕ) (c : Cursor) where
   Passing (given (rest p)) = Unit
   Passing (refused k) = Unit
 
-  passing-rest : (a : Answer Range) → Passing (onward a (λ p. given (rest p)))
-  passing-rest (given p) = tt
-  passing-rest (refused k) = tt
+  passing_rest : (a : Answer Range) → Passing (onward a (λ p. given (rest p)))
+  passing_rest (given p) = tt
+  passing_rest (refused k) = tt
 
-  passing-place : c.at ≤ length s → (a : Answer Place) → place_at (longest c.strict) s c.number c.at ≡ a
+  passing_place : c.at ≤ length s → (a : Answer Place) → place_at (longest c.strict) s c.number c.at ≡ a
       → Passing (onward a (seen_at s c))
-  passing-place h (given (ended marked payload)) e = passing-rest (rest_at c.strict s marked payload)
-  passing-place h (given (option r)) e =
+  passing_place h (given (ended marked payload)) e = passing_rest (rest_at c.strict s marked payload)
+  passing_place h (given (option r)) e =
       on_eq Passing c.left 0 (λ z. tt) (λ z. record { place = e; after = refl; falls = omega arith; inside = h })
-  passing-place h (refused k) e = tt
+  passing_place h (refused k) e = tt
 
   passing : Passing (step_of s c)
   unfolding step_of
   passing =
       on_lt Passing 70000 (length s) (λ l. tt)
       (λ short. on_lt Passing (length s) c.at (λ l. tt)
-      (λ h. passing-place h (place_at (longest c.strict) s c.number c.at) refl))
+      (λ h. passing_place h (place_at (longest c.strict) s c.number c.at) refl))
 
-  pub step-passes : (r : OptionRecord) (d : Cursor) → step_of s c ≡ given (passed r d) → Passes s c r d
-  step-passes r d e = subst Passing e passing
+  pub step_passes : (r : OptionRecord) (d : Cursor) → step_of s c ≡ given (passed r d) → Passes s c r d
+  step_passes r d e = subst Passing e passing
 
 -- A loop of steps passes no more options than there is room for.
 pub steps_few : {s : List ℕ} {c : Cursor} {rs : List OptionRecord} {a : Answer Range} → Run s c rs a → length rs ≤ c.left
 steps_few (stops k e) = omega arith
 steps_few (ends e) = omega arith
-steps_few (goes {c} {number} {value} {next} e run) = omega (arith, steps_few run, (step-passes _ c (record_of number value) next (sym e)).falls)
+steps_few (goes {c} {number} {value} {next} e run) = omega (arith, steps_few run, (step_passes _ c (record_of number value) next (sym e)).falls)
 
 -- What is accepted from a cursor, by what its step sees.
 joined_accepts : (r : OptionRecord) (a : Answer Walked) → ◌≡◌ {A = Answer (Unit {0})} (onward (onward a (joined r)) (λ _. given tt)) (onward a (λ _. given tt))
@@ -55,7 +55,7 @@ joined_accepts r (refused k) = refl
 pub accepting_on : (s : List ℕ) (c : Cursor) (r : OptionRecord) (d : Cursor) → step_of s c ≡ given (passed r d) → accepting_from s c ≡ accepting_from s d
 unfolding walk
 accepting_on s c r d e =
-    let p = step-passes s c r d e in
+    let p = step_passes s c r d e in
     let fits : c.left ≡ suc d.left = omega (arith, p.falls, ap (λ (x : Cursor). x.left) p.after) in
     rw e (ap (λ (n : ℕ). onward (onward (walk n s d) (joined r)) (λ _. given tt)) fits ∙ joined_accepts r (walk (suc d.left) s d))
 

@@ -21,12 +21,12 @@ use Rattle.option_reading.proofs.Within.{Inside, place_inside}
 use Rattle.reading.specs.Headed.{headed}
 use Rattle.reading.specs.Options.{Tail, before, options}
 use Rattle.reading.specs.Reading.{longest, packet_of, finished, reading}
-use Rattle.reading.proofs.Headed.{Roomy, headed-opens}
+use Rattle.reading.proofs.Headed.{Roomy, headed_opens}
 use Rattle.cursor.specs.Cursor.{Started, first, start_of, rest, rest_at, record_of, accepting}
 use Rattle.cursor.specs.Walk.{Walked, on_seen, joined, walk, accepting_from, collected, stepping, Run, goes, ends, stops}
 use Rattle.cursor.specs.declared.Cursor.{Cursor}
 use Rattle.cursor.proofs.Places.{step_inside}
-use Rattle.cursor.proofs.Passing.{step-passes}
+use Rattle.cursor.proofs.Passing.{step_passes}
 
 -- What the tail of the options' reading is to one who walks.
 abbrev closed : Bool → List ℕ → Tail → Answer Walked
@@ -93,10 +93,10 @@ pub steps_walk : {s : List ℕ} {c : Cursor} {rs : List OptionRecord} {a : Answe
 unfolding walk
 steps_walk (stops k e) n h = rw (sym e)
 steps_walk (ends e) n h = rw (sym e)
-steps_walk (goes {c} {number} {value} {next} e run) zero h = absurd (omega (arith, (step-passes _ c (record_of number value) next (sym e)).falls))
+steps_walk (goes {c} {number} {value} {next} e run) zero h = absurd (omega (arith, (step_passes _ c (record_of number value) next (sym e)).falls))
 steps_walk (goes {c} {number} {value} {next} {rs} {a} e run) (suc n) h =
     rw (sym e)
-    (ap (λ (w : Answer Walked). onward w (joined (record_of number value))) (steps_walk run n (omega (arith, (step-passes _ c (record_of number value) next (sym e)).falls)))
+    (ap (λ (w : Answer Walked). onward w (joined (record_of number value))) (steps_walk run n (omega (arith, (step_passes _ c (record_of number value) next (sym e)).falls)))
     ∙ rest_joined a (record_of number value) rs)
 
 -- What is finished, by way of what a walk collects.
@@ -117,17 +117,17 @@ onward_finished strict s raw (refused k) = refl
 
 -- Reading is the fold of the steps, and 129 of them are enough: any more give the same.
 module _ (strict : Bool) (s : List ℕ) (bytes : Bytes s) (steps : ℕ) (enough : 128 ≤ steps) where
-  from-header : (a : Answer HeaderRaw) → Roomy s a
+  from_header : (a : Answer HeaderRaw) → Roomy s a
       → onward a (λ raw. onward (options (longest strict) s 128 0 (4 + token_of raw)) (finished strict s raw))
       ≡ onward (onward a (λ raw. given (first strict raw))) (λ o. onward (walk (suc steps) s o.cursor) (λ w. given (collected o.raw w)))
-  from-header (given raw) h =
+  from_header (given raw) h =
       onward_finished strict s raw (options (longest strict) s 128 0 (4 + token_of raw))
       ∙ ap (λ (a : Answer Walked). onward a (λ w. given (collected raw w))) (sym (walk_is strict s h.1 bytes 128 steps 0 (4 + token_of raw) enough h.0))
-  from-header (refused k) h = refl
+  from_header (refused k) h = refl
 
-  pub reading-is-stepping : reading strict s ≡ stepping (suc steps) strict s
-  reading-is-stepping =
-      (headed-opens strict s).is ∙ from-header (headed strict s) (headed-opens strict s).roomy
+  pub reading_is_stepping : reading strict s ≡ stepping (suc steps) strict s
+  reading_is_stepping =
+      (headed_opens strict s).is ∙ from_header (headed strict s) (headed_opens strict s).roomy
 
 -- A walk starts with room for 128 options.
 pub starts_with : (strict : Bool) (a : Answer HeaderRaw) (o : Started) → onward a (λ raw. given (first strict raw)) ≡ given o → o.cursor.left ≡ 128
@@ -142,22 +142,22 @@ collects raw rs (refused k) = refl
 
 module _ (strict : Bool) (s : List ℕ) (bytes : Bytes s) where
   -- A walk that isn't started: its refusal is that of reading.
-  pub reading-unstarted : (k : ℕ) → start_of strict s ≡ refused k → reading strict s ≡ refused k
-  reading-unstarted k e =
-      reading-is-stepping strict s bytes 128 (omega arith)
+  pub reading_unstarted : (k : ℕ) → start_of strict s ≡ refused k → reading strict s ≡ refused k
+  reading_unstarted k e =
+      reading_is_stepping strict s bytes 128 (omega arith)
       ∙ ap (λ (t : Answer Started). onward t (λ o. onward (walk 129 s o.cursor) (λ w. given (collected o.raw w)))) e
 
   -- One that is: reading is what the walk collects.
-  reading-started : (o : Started) → start_of strict s ≡ given o → reading strict s ≡ onward (walk 129 s o.cursor) (λ w. given (collected o.raw w))
-  reading-started o e =
-      reading-is-stepping strict s bytes 128 (omega arith)
+  reading_started : (o : Started) → start_of strict s ≡ given o → reading strict s ≡ onward (walk 129 s o.cursor) (λ w. given (collected o.raw w))
+  reading_started o e =
+      reading_is_stepping strict s bytes 128 (omega arith)
       ∙ ap (λ (t : Answer Started). onward t (λ o. onward (walk 129 s o.cursor) (λ w. given (collected o.raw w)))) e
 
   -- So it is what any loop collects that starts a walk and steps to its end.
-  pub reading-is-steps : (o : Started) → start_of strict s ≡ given o → (rs : List OptionRecord) (a : Answer Range) → Run s o.cursor rs a
+  pub reading_is_steps : (o : Started) → start_of strict s ≡ given o → (rs : List OptionRecord) (a : Answer Range) → Run s o.cursor rs a
       → reading strict s ≡ onward a (λ p. given (collected o.raw (record { records = rs; payload = p })))
-  reading-is-steps o e rs a run =
-      reading-started o e
+  reading_is_steps o e rs a run =
+      reading_started o e
       ∙ (ap (λ (w : Answer Walked). onward w (λ w. given (collected o.raw w))) (steps_walk run 128 (omega (arith, starts_with strict (headed strict s) o e)))
       ∙ collects o.raw rs a)
 
@@ -167,11 +167,11 @@ module _ (strict : Bool) (s : List ℕ) (bytes : Bytes s) where
   drops raw (given w) = refl
   drops raw (refused k) = refl
 
-  pub accepting-started : (o : Started) → start_of strict s ≡ given o → accepting strict s ≡ accepting_from s o.cursor
-  accepting-started o e =
-      ap (λ (a : Answer Packet). onward a (λ _. given tt)) (reading-started o e)
+  pub accepting_started : (o : Started) → start_of strict s ≡ given o → accepting strict s ≡ accepting_from s o.cursor
+  accepting_started o e =
+      ap (λ (a : Answer Packet). onward a (λ _. given tt)) (reading_started o e)
       ∙ (drops o.raw (walk 129 s o.cursor)
       ∙ ap (λ (n : ℕ). onward (walk (suc n) s o.cursor) (λ _. given tt)) (sym (starts_with strict (headed strict s) o e)))
 
-  pub accepting-unstarted : (k : ℕ) → start_of strict s ≡ refused k → accepting strict s ≡ refused k
-  accepting-unstarted k e = ap (λ (a : Answer Packet). onward a (λ _. given tt)) (reading-unstarted k e)
+  pub accepting_unstarted : (k : ℕ) → start_of strict s ≡ refused k → accepting strict s ≡ refused k
+  accepting_unstarted k e = ap (λ (a : Answer Packet). onward a (λ _. given tt)) (reading_unstarted k e)

@@ -1,5 +1,6 @@
 // Reading a datagram step by step, option after option, with no array of records and no packet.
 #![tactic(auto)]
+
 ghost use Rattle.std.specs.Prelude.{◌≡◌};
 ghost use Rattle.refusal.specs.Answer.{outcome};
 ghost use Rattle.cursor.specs.Cursor.{Starts, StepsTo, Judges};

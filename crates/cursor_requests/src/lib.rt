@@ -1,5 +1,6 @@
 // Requests on reading step by step: a datagram's header, each option that a cursor passes, and how its walk ends.
 #![tactic(auto)]
+
 use cursor::{Cursor, Start, Step};
 use header::HeaderRaw;
 use lines::put_number;

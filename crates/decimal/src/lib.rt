@@ -1,5 +1,6 @@
 // Decimal numbers as text, both ways: put into a lent output, and read from lent bytes.
 #![tactic(auto)]
+
 ghost use Rattle.std.specs.Prelude.{◌≡◌};
 ghost use Rattle.refusal.specs.Answer.{onward};
 ghost use Rattle.placing.specs.Put.{Puts};

@@ -1,5 +1,6 @@
 // The request to play an edit script over a new packet or a datagram.
 #![tactic(auto)]
+
 use edit_scripts::{Script, played};
 use getter_words::put_getters;
 use packet::Packet;

@@ -1,5 +1,6 @@
 // Edit scripts: a packet, changed step by step.
 #![tactic(auto)]
+
 use compacting::{Compacted, compact};
 use edit_steps::{ASK, COMPACT, Step, raw_step_at, step_at};
 use edit_taking::take;

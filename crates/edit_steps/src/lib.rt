@@ -1,5 +1,6 @@
 // The steps of an edit script, read from the words of a line: with values as bytes, or with ranges.
 #![tactic(auto)]
+
 mod names;
 mod reading_steps;
 mod values;

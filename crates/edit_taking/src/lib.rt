@@ -1,5 +1,6 @@
 // The steps of edit scripts, taken.
 #![tactic(auto)]
+
 use edit_steps::{
     ADD, CLASS, CLEAR, CLEAR_ALL, CONTENT_FORMAT, ID, OBSERVE, PAYLOAD, SET, Step, TOKEN, TYPE,
     VERSION,

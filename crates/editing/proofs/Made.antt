@@ -30,111 +30,111 @@ pub record Made (p : Packet) (token : Range) (rs : List OptionRecord) (payload :
   pub is : q ≡ packet_with p token rs payload
 
 module _ (p q : Packet) where
-  of-orderly : (a : Answer Packet) → orderly p a ≡ given q → (misordered p ≡ false) × (a ≡ given q)
-  of-orderly a =
+  of_orderly : (a : Answer Packet) → orderly p a ≡ given q → (misordered p ≡ false) × (a ≡ given q)
+  of_orderly a =
       on (λ (b : Answer Packet). b ≡ given q → (misordered p ≡ false) × (a ≡ given q)) (misordered p)
       (λ m e. not_refused (sym e)) (λ m e. (m, e))
 
-  of-roomy : (rs : List OptionRecord) → roomy p rs ≡ given q → (length rs ≤ max_options) × (q ≡ with_records p rs)
-  of-roomy rs =
+  of_roomy : (rs : List OptionRecord) → roomy p rs ≡ given q → (length rs ≤ max_options) × (q ≡ with_records p rs)
+  of_roomy rs =
       on_lt (λ (b : Answer Packet). b ≡ given q → (length rs ≤ max_options) × (q ≡ with_records p rs)) max_options (length rs)
       (λ l e. not_refused (sym e)) (λ l e. (l, cc))
 
-  of-given : (rs : List OptionRecord) (token payload : Range) → misordered p ≡ false → length rs ≤ max_options → given (packet_with p token rs payload) ≡ given q
+  of_given : (rs : List OptionRecord) (token payload : Range) → misordered p ≡ false → length rs ≤ max_options → given (packet_with p token rs payload) ≡ given q
       → Made p token rs payload q
-  of-given rs token payload m l e = record { sound = m; few = l; is = cc }
+  of_given rs token payload m l e = record { sound = m; few = l; is = cc }
 
   -- An edit whose ranges came as numbers: their homes are good, and it is done with the ranges.
-  pub made-homed : (l : List ℕ) (edit : List Range → Answer Packet) → homed l edit ≡ given q → (homeless l ≡ false) × (edit (ranges_in l) ≡ given q)
-  made-homed l edit =
+  pub made_homed : (l : List ℕ) (edit : List Range → Answer Packet) → homed l edit ≡ given q → (homeless l ≡ false) × (edit (ranges_in l) ≡ given q)
+  made_homed l edit =
       on (λ (b : Answer Packet). b ≡ given q → (homeless l ≡ false) × (edit (ranges_in l) ≡ given q)) (homeless l)
       (λ m e. not_refused (sym e)) (λ m e. (m, e))
 
-  pub made-roomy : (rs : List OptionRecord) → orderly p (roomy p rs) ≡ given q → Made p p.token rs p.payload q
-  made-roomy rs e =
-      let o = of-orderly (roomy p rs) e in
-      let r = of-roomy rs o.1 in
+  pub made_roomy : (rs : List OptionRecord) → orderly p (roomy p rs) ≡ given q → Made p p.token rs p.payload q
+  made_roomy rs e =
+      let o = of_orderly (roomy p rs) e in
+      let r = of_roomy rs o.1 in
       record { sound = o.0; few = r.0; is = r.1 }
 
   -- Each edit, where it is done.
-  pub made-added : (n : ℕ) (range : Range) → added p n range ≡ given q → Made p p.token (inserted n (record_of n range ∷ []) (records_of p)) p.payload q
+  pub made_added : (n : ℕ) (range : Range) → added p n range ≡ given q → Made p p.token (inserted n (record_of n range ∷ []) (records_of p)) p.payload q
   unfolding added
-  made-added n range e = made-roomy (inserted n (record_of n range ∷ []) (records_of p)) e
+  made_added n range e = made_roomy (inserted n (record_of n range ∷ []) (records_of p)) e
 
-  pub made-set : (n : ℕ) (ranges : List Range) → option_set p n ranges ≡ given q → Made p p.token (replaced n ranges (records_of p)) p.payload q
+  pub made_set : (n : ℕ) (ranges : List Range) → option_set p n ranges ≡ given q → Made p p.token (replaced n ranges (records_of p)) p.payload q
   unfolding option_set
-  made-set n ranges e = made-roomy (replaced n ranges (records_of p)) e
+  made_set n ranges e = made_roomy (replaced n ranges (records_of p)) e
 
   length_removed : (n : ℕ) (rs : List OptionRecord) → length (removed n rs) ≤ length rs
   length_removed n [] = omega arith
   length_removed n (r ∷ rs) =
       on_eq (λ (l : List OptionRecord). length l ≤ suc (length rs)) r.number n (λ h. omega (arith, length_removed n rs)) (λ h. omega (arith, length_removed n rs))
 
-  pub made-cleared : (n : ℕ) → cleared p n ≡ given q → Made p p.token (removed n (records_of p)) p.payload q
+  pub made_cleared : (n : ℕ) → cleared p n ≡ given q → Made p p.token (removed n (records_of p)) p.payload q
   unfolding cleared
-  made-cleared n e =
-      let o = of-orderly (given (with_records p (removed n (records_of p)))) e in
-      of-given (removed n (records_of p)) p.token p.payload o.0 (omega (arith, taken_few p o.0, length_removed n (records_of p))) o.1
+  made_cleared n e =
+      let o = of_orderly (given (with_records p (removed n (records_of p)))) e in
+      of_given (removed n (records_of p)) p.token p.payload o.0 (omega (arith, taken_few p o.0, length_removed n (records_of p))) o.1
 
-  pub made-empty : cleared_all p ≡ given q → Made p p.token [] p.payload q
+  pub made_empty : cleared_all p ≡ given q → Made p p.token [] p.payload q
   unfolding cleared_all
-  made-empty e = let o = of-orderly (given (with_records p [])) e in of-given [] p.token p.payload o.0 (omega arith) o.1
+  made_empty e = let o = of_orderly (given (with_records p [])) e in of_given [] p.token p.payload o.0 (omega arith) o.1
 
-  pub made-payload : (payload : Range) → payload_set p payload ≡ given q → Made p p.token (records_of p) payload q
+  pub made_payload : (payload : Range) → payload_set p payload ≡ given q → Made p p.token (records_of p) payload q
   unfolding payload_set
-  made-payload payload e =
-      let o = of-orderly (given (packet_with p p.token (records_of p) payload)) e in
-      of-given (records_of p) p.token payload o.0 (taken_few p o.0) o.1
+  made_payload payload e =
+      let o = of_orderly (given (packet_with p p.token (records_of p) payload)) e in
+      of_given (records_of p) p.token payload o.0 (taken_few p o.0) o.1
 
-  pub made-token : (token : Range) → token_set p token ≡ given q → (token.len ≤ 15) × Made p token (records_of p) p.payload q
+  pub made_token : (token : Range) → token_set p token ≡ given q → (token.len ≤ 15) × Made p token (records_of p) p.payload q
   unfolding token_set
-  made-token token =
+  made_token token =
       on_lt (λ (b : Answer Packet). b ≡ given q → (token.len ≤ 15) × Made p token (records_of p) p.payload q) 15 token.len
       (λ l e. not_refused (sym e))
       (λ l e.
-      let o = of-orderly (given (packet_with p token (records_of p) p.payload)) e in
-      (l, of-given (records_of p) token p.payload o.0 (taken_few p o.0) o.1))
+      let o = of_orderly (given (packet_with p token (records_of p) p.payload)) e in
+      (l, of_given (records_of p) token p.payload o.0 (taken_few p o.0) o.1))
 
 -- What a packet that was made holds: those records, 128 places, and an order that edits take where the records have one.
 module _ (p : Packet) (token : Range) (rs : List OptionRecord) (payload : Range) (q : Packet) (m : Made p token rs payload q) where
-  pub made-records : records_of q ≡ rs
-  made-records = ap records_of m.is ∙ take-append_seam rs (replicate (max_options - length rs) none)
+  pub made_records : records_of q ≡ rs
+  made_records = ap records_of m.is ∙ take-append_seam rs (replicate (max_options - length rs) none)
 
-  pub made-places : length q.options ≡ max_options
-  made-places = ap (λ (x : Packet). length x.options) m.is ∙ simp (length-append, length-replicate) (omega (arith, m.few))
+  pub made_places : length q.options ≡ max_options
+  made_places = ap (λ (x : Packet). length x.options) m.is ∙ simp (length-append, length-replicate) (omega (arith, m.few))
 
-  pub made-order : falling 0 rs ≡ false → misordered q ≡ false
-  made-order e =
+  pub made_order : falling 0 rs ≡ false → misordered q ≡ false
+  made_order e =
       let few : q.count ≤ max_options = omega (arith, ap (λ (x : Packet). x.count) m.is, m.few) in
-      rw (le-ltb max_options q.count few) (ap (falling 0) made-records ∙ e)
+      rw (le-ltb max_options q.count few) (ap (falling 0) made_records ∙ e)
 
 -- Every edit that is done leaves a packet that edits take: at most 128 records, whose numbers do not fall.
 module _ (p q : Packet) where
   rising : misordered p ≡ false → falling 0 (records_of p) ≡ false
   rising m = (in_order p m).rising
 
-  pub added-order : (n : ℕ) (range : Range) → added p n range ≡ given q → misordered q ≡ false
-  added-order n range e =
-      let m = made-added p q n range e in
-      made-order p _ _ _ q m (falling_inserted n 0 (record_of n range ∷ []) (records_of p) (refl, tt) (omega arith) (rising m.sound))
+  pub added_order : (n : ℕ) (range : Range) → added p n range ≡ given q → misordered q ≡ false
+  added_order n range e =
+      let m = made_added p q n range e in
+      made_order p _ _ _ q m (falling_inserted n 0 (record_of n range ∷ []) (records_of p) (refl, tt) (omega arith) (rising m.sound))
 
-  pub set-order : (n : ℕ) (ranges : List Range) → option_set p n ranges ≡ given q → misordered q ≡ false
-  set-order n ranges e =
-      let m = made-set p q n ranges e in
-      made-order p _ _ _ q m
+  pub set_order : (n : ℕ) (ranges : List Range) → option_set p n ranges ≡ given q → misordered q ≡ false
+  set_order n ranges e =
+      let m = made_set p q n ranges e in
+      made_order p _ _ _ q m
       (falling_inserted n 0 (map (record_of n) ranges) (removed n (records_of p)) (all_of n ranges) (omega arith) (falling_removed n 0 (records_of p) (rising m.sound)))
 
-  pub cleared-order : (n : ℕ) → cleared p n ≡ given q → misordered q ≡ false
-  cleared-order n e = let m = made-cleared p q n e in made-order p _ _ _ q m (falling_removed n 0 (records_of p) (rising m.sound))
+  pub cleared_order : (n : ℕ) → cleared p n ≡ given q → misordered q ≡ false
+  cleared_order n e = let m = made_cleared p q n e in made_order p _ _ _ q m (falling_removed n 0 (records_of p) (rising m.sound))
 
-  pub empty-order : cleared_all p ≡ given q → misordered q ≡ false
-  empty-order e = made-order p _ _ _ q (made-empty p q e) refl
+  pub empty_order : cleared_all p ≡ given q → misordered q ≡ false
+  empty_order e = made_order p _ _ _ q (made_empty p q e) refl
 
-  pub token-order : (token : Range) → token_set p token ≡ given q → misordered q ≡ false
-  token-order token e = let m = (made-token p q token e).1 in made-order p _ _ _ q m (rising m.sound)
+  pub token_order : (token : Range) → token_set p token ≡ given q → misordered q ≡ false
+  token_order token e = let m = (made_token p q token e).1 in made_order p _ _ _ q m (rising m.sound)
 
-  pub payload-order : (payload : Range) → payload_set p payload ≡ given q → misordered q ≡ false
-  payload-order payload e = let m = made-payload p q payload e in made-order p _ _ _ q m (rising m.sound)
+  pub payload_order : (payload : Range) → payload_set p payload ≡ given q → misordered q ≡ false
+  payload_order payload e = let m = made_payload p q payload e in made_order p _ _ _ q m (rising m.sound)
 
 -- Clearing a number sets no option of it.
 pub cleared_set : (p : Packet) (n : ℕ) → option_set p n [] ≡ cleared p n

@@ -42,28 +42,28 @@ none_of n (r ∷ rs) e = go (leb r.number n) refl (none_of n rs) e
 
 module _ (n : ℕ) (new : List OptionRecord) (a : AllOf n new) where
   -- New records of a number are its last.
-  pub of-inserted : (rs : List OptionRecord) → of_number n (inserted n new rs) ≡ of_number n rs ++ new
-  of-inserted [] = of_all n new a
-  of-inserted (r ∷ rs) =
+  pub of_inserted : (rs : List OptionRecord) → of_number n (inserted n new rs) ≡ of_number n rs ++ new
+  of_inserted [] = of_all n new a
+  of_inserted (r ∷ rs) =
       on (λ (l : List OptionRecord). of_number n l ≡ of_number n (r ∷ rs) ++ new) (up_to n (r ∷ rs))
       (λ _.
       on_eq (λ (l : List OptionRecord). of_number n (r ∷ inserted n new rs) ≡ l ++ new) r.number n
-      (λ e. first_of n r (inserted n new rs) e ∙ ap (λ (l : List OptionRecord). r ∷ l) (of-inserted rs))
-      (λ e. first_not n r (inserted n new rs) e ∙ of-inserted rs))
+      (λ e. first_of n r (inserted n new rs) e ∙ ap (λ (l : List OptionRecord). r ∷ l) (of_inserted rs))
+      (λ e. first_not n r (inserted n new rs) e ∙ of_inserted rs))
       (λ e.
       let none = none_of n (r ∷ rs) e in
       of_append n new (r ∷ rs) ∙ (rw (none, of_all n new a) (append-nil new)))
 
   -- Records of other numbers are as they were.
   module _ (m : ℕ) (z : m ≡ n → ⊥) where
-    pub other-inserted : (rs : List OptionRecord) → of_number m (inserted n new rs) ≡ of_number m rs
-    other-inserted [] = other_all m n new a z
-    other-inserted (r ∷ rs) =
+    pub other_inserted : (rs : List OptionRecord) → of_number m (inserted n new rs) ≡ of_number m rs
+    other_inserted [] = other_all m n new a z
+    other_inserted (r ∷ rs) =
         on (λ (l : List OptionRecord). of_number m l ≡ of_number m (r ∷ rs)) (up_to n (r ∷ rs))
         (λ _.
         on_eq (λ (l : List OptionRecord). of_number m (r ∷ inserted n new rs) ≡ l) r.number m
-        (λ e. first_of m r (inserted n new rs) e ∙ ap (λ (l : List OptionRecord). r ∷ l) (other-inserted rs))
-        (λ e. first_not m r (inserted n new rs) e ∙ other-inserted rs))
+        (λ e. first_of m r (inserted n new rs) e ∙ ap (λ (l : List OptionRecord). r ∷ l) (other_inserted rs))
+        (λ e. first_not m r (inserted n new rs) e ∙ other_inserted rs))
         (λ _. of_append m new (r ∷ rs) ∙ ap (λ (l : List OptionRecord). l ++ of_number m (r ∷ rs)) (other_all m n new a z))
 
 -- A removed number is absent.

@@ -36,13 +36,13 @@ none_up_to n before (r ∷ rs) h e =
 
 module _ (n : ℕ) (new : List OptionRecord) where
   -- Where no record has the number or a lower one, the new ones come first.
-  pub inserted-first : (rs : List OptionRecord) → up_to n rs ≡ false → inserted n new rs ≡ new ++ rs
-  inserted-first [] e = sym (append-nil new)
-  inserted-first (r ∷ rs) e = rw e refl
+  pub inserted_first : (rs : List OptionRecord) → up_to n rs ≡ false → inserted n new rs ≡ new ++ rs
+  inserted_first [] e = sym (append-nil new)
+  inserted_first (r ∷ rs) e = rw e refl
 
   -- They come after a record of the number or a lower one.
-  pub inserted-after : (r : OptionRecord) (rs : List OptionRecord) → r.number ≤ n → inserted n new (r ∷ rs) ≡ r ∷ inserted n new rs
-  inserted-after r rs h = rw (le-leb r.number n h) refl
+  pub inserted_after : (r : OptionRecord) (rs : List OptionRecord) → r.number ≤ n → inserted n new (r ∷ rs) ≡ r ∷ inserted n new rs
+  inserted_after r rs h = rw (le-leb r.number n h) refl
 
 -- No new record changes nothing.
 pub inserted_nothing : (n : ℕ) (rs : List OptionRecord) → inserted n [] rs ≡ rs
@@ -52,11 +52,11 @@ inserted_nothing n (r ∷ rs) =
 
 -- A record of the number is left out, any other stays.
 module _ (n : ℕ) (r : OptionRecord) (rs : List OptionRecord) where
-  pub removed-one : r.number ≡ n → removed n (r ∷ rs) ≡ removed n rs
-  removed-one e = rw (eq-eqb r.number n e) refl
+  pub removed_one : r.number ≡ n → removed n (r ∷ rs) ≡ removed n rs
+  removed_one e = rw (eq-eqb r.number n e) refl
 
-  pub removed-not : (r.number ≡ n → ⊥) → removed n (r ∷ rs) ≡ r ∷ removed n rs
-  removed-not e = rw (ne_eqb r.number n e) refl
+  pub removed_not : (r.number ≡ n → ⊥) → removed n (r ∷ rs) ≡ r ∷ removed n rs
+  removed_not e = rw (ne_eqb r.number n e) refl
 
 -- Every record has the number.
 abbrev pub AllOf : ℕ → List OptionRecord → Type 0
@@ -99,4 +99,4 @@ falling_inserted n before new (r ∷ rs) a h e =
     (λ high.
     let above : n < r.number = omega arith in
     let none : up_to n (r ∷ rs) ≡ false = rw (lt-leb r.number n above) (none_up_to n r.number rs above up.rest) in
-    rw (inserted-first n new (r ∷ rs) none) (falling_put n before new (r ∷ rs) a h (falling_after n r rs (omega arith) up.rest)))
+    rw (inserted_first n new (r ∷ rs) none) (falling_put n before new (r ∷ rs) a h (falling_after n r rs (omega arith) up.rest)))

@@ -27,12 +27,12 @@ module _ (p : Packet) (a : Answer Packet) where
 
 -- The same where the edit's ranges come as numbers: a bad home and a bad order give one refusal.
 module _ (p : Packet) (l : List ℕ) (edit : List Range → Answer Packet) where
-  pub homed-not-taken : misordered p ≡ true → beside p (refused 11) ≡ beside p (homed l (λ ranges. orderly p (edit ranges)))
-  homed-not-taken e =
+  pub homed_not_taken : misordered p ≡ true → beside p (refused 11) ≡ beside p (homed l (λ ranges. orderly p (edit ranges)))
+  homed_not_taken e =
       on (λ (a : Answer Packet). beside p (refused 11) ≡ beside p a) (homeless l) (λ _. refl) (λ _. not_taken p (edit (ranges_in l)) e)
 
-  pub homed-taken : misordered p ≡ false → beside p (homed l edit) ≡ beside p (homed l (λ ranges. orderly p (edit ranges)))
-  homed-taken e = rw e refl
+  pub homed_taken : misordered p ≡ false → beside p (homed l edit) ≡ beside p (homed l (λ ranges. orderly p (edit ranges)))
+  homed_taken e = rw e refl
 
 -- One range whose home comes as a home.
 pub homed_one : (h : Home) (start len : ℕ) (edit : List Range → Answer Packet)

@@ -1,6 +1,7 @@
 // Edits of a packet, by value: token, payload and options (packet.rs). Each judges the order of the records first, and then
 // replaces those between two places.
 #![tactic(auto)]
+
 ghost use Rattle.std.specs.Prelude.{◌≡◌};
 ghost use Rattle.refusal.specs.Answer.{given};
 ghost use Rattle.packet.specs.Packet.{chosen, records_of};

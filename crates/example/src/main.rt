@@ -1,5 +1,6 @@
 // A worked example: reads a datagram from standard input, looks at its path, adds a query to it and writes it again.
 #![tactic(auto)]
+
 use editing::add_option;
 use hexadecimal::put_hex;
 use libc::STDIN_FILENO;

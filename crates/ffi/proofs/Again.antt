@@ -33,12 +33,12 @@ use Rattle.reading.specs.Options.{Tail, before, options}
 use Rattle.reading.specs.Reading.{longest, packet_of, reading}
 use Rattle.reading.proofs.Sound.{Ended, Stands, stands, marks, given_place}
 use Rattle.reading.proofs.Taken.{Taken, taken}
-use Rattle.reading.proofs.Accept.{meant, unpaid, means, laid_out, laid-before, rest_bytes, accepted, records_found, found as follows}
+use Rattle.reading.proofs.Accept.{meant, unpaid, means, laid_out, laid_before, rest_bytes, accepted, records_found, found as follows}
 use Rattle.reading.proofs.Kept.{Kept, kept}
 use Rattle.measuring.specs.Measuring.{sent_payload, strictly, limited}
 use Rattle.measuring.specs.declared.Limit.TheVariants.{Unlimited}
 use Rattle.writing.specs.Writing.{sent, bytes_written, writing}
-use Rattle.writing.proofs.Strict.{passes, wellformed-strict}
+use Rattle.writing.proofs.Strict.{passes, wellformed_strict}
 use Rattle.flat_writing.specs.FlatWriting.{copying, packet_of as packet_in}
 use Rattle.flat_measuring.proofs.Sent.{empty_class, sent_other}
 use Rattle.ffi.specs.Copied.{sent_end, length_in}
@@ -91,25 +91,25 @@ module _ (strict : Bool) (s : List ℕ) (b : Bytes s) (p : Packet) (k : Taken st
   bare_length : length (layout (unpaid (meant s k.raw k.tail))) + (mark k.tail.marked + (length s - k.tail.payload)) ≡ length s
   bare_length =
       ap (λ (n : ℕ). length (layout (unpaid (meant s k.raw k.tail))) + n) (sym (marks_length k.tail.marked (drop k.tail.payload s) ∙ ap (λ (n : ℕ). mark k.tail.marked + n) (length-drop k.tail.payload s)))
-      ∙ (sym (length-append (layout (unpaid (meant s k.raw k.tail))) (marks k.tail.marked (drop k.tail.payload s))) ∙ ap length (laid-before strict s b p k))
+      ∙ (sym (length-append (layout (unpaid (meant s k.raw k.tail))) (marks k.tail.marked (drop k.tail.payload s))) ∙ ap length (laid_before strict s b p k))
 
   four : (m : Message) → 4 ≤ length (layout m)
   unfolding layout header_layout
   four m = omega arith
 
-  span-end : (span_of p).end ≡ last_end (4 + token_of k.raw) k.tail.records
+  span_end : (span_of p).end ≡ last_end (4 + token_of k.raw) k.tail.records
   unfolding packet_of
-  span-end = rw (k.packet, records_found s k.raw k.tail)
+  span_end = rw (k.packet, records_found s k.raw k.tail)
 
   ends : last_end (4 + token_of k.raw) k.tail.records + mark k.tail.marked ≡ k.tail.payload
   ends = on_given (EndsAt (4 + token_of k.raw)) (options (longest strict) s 128 0 (4 + token_of k.raw)) k.tail (options_end (longest strict) s b 128 0 (4 + token_of k.raw) k.token_inside) k.options
 
   end_is : (span_of p).end ≡ length (layout (unpaid (meant s k.raw k.tail)))
-  end_is = omega (arith, span-end, ends, bare_length, (follows strict s b p k).inside)
+  end_is = omega (arith, span_end, ends, bare_length, (follows strict s b p k).inside)
 
-  before-end : take (span_of p).end s ≡ layout (unpaid (meant s k.raw k.tail))
-  before-end =
-      ap (λ (l : List ℕ). take (span_of p).end l) (sym (laid-before strict s b p k))
+  before_end : take (span_of p).end s ≡ layout (unpaid (meant s k.raw k.tail))
+  before_end =
+      ap (λ (l : List ℕ). take (span_of p).end l) (sym (laid_before strict s b p k))
       ∙ take_at (layout (unpaid (meant s k.raw k.tail))) (marks k.tail.marked (drop k.tail.payload s)) (span_of p).end (sym end_is)
 
   payload_is : (span_of p).payload ≡ k.tail.payload
@@ -117,30 +117,30 @@ module _ (strict : Bool) (s : List ℕ) (b : Bytes s) (p : Packet) (k : Taken st
   payload_is = rw k.packet
 
   -- Nothing is sent, or the payload.
-  none-sent : bytes_of (stores s []) (sent_payload strict p.header.code p.payload) ≡ [] → bytes_written strict (stores s []) p ≡ take (span_of p).end s
-  none-sent e =
+  none_sent : bytes_of (stores s []) (sent_payload strict p.header.code p.payload) ≡ [] → bytes_written strict (stores s []) p ≡ take (span_of p).end s
+  none_sent e =
       let m = meaning (stores s []) p in
       ap (λ (l : List ℕ). layout (record { version = m.version; type = m.type; code = m.code; id = m.id; token = m.token; options = m.options; payload = l })) e
-      ∙ (ap (λ (m : Message). layout (unpaid m)) (means strict s b p k []) ∙ sym before-end)
+      ∙ (ap (λ (m : Message). layout (unpaid m)) (means strict s b p k []) ∙ sym before_end)
 
-  all-sent : sent_payload strict p.header.code p.payload ≡ p.payload → k.tail.payload < length s → bytes_written strict (stores s []) p ≡ take (length s) s
-  all-sent e h =
+  all_sent : sent_payload strict p.header.code p.payload ≡ p.payload → k.tail.payload < length s → bytes_written strict (stores s []) p ≡ take (length s) s
+  all_sent e h =
       let m = meaning (stores s []) p in
-      let whole : both k.tail.marked (eqb k.tail.payload (length s)) ≡ false = not-bare k.tail.marked k.tail.payload (length s) h in
+      let whole : both k.tail.marked (eqb k.tail.payload (length s)) ≡ false = not_bare k.tail.marked k.tail.payload (length s) h in
       ap (λ (r : Range). layout (record { version = m.version; type = m.type; code = m.code; id = m.id; token = m.token; options = m.options; payload = bytes_of (stores s []) r })) e
       ∙ (ap layout (means strict s b p k []) ∙ (sym (append-nil _) ∙ ((rw whole at (laid_out strict s b p k)) ∙ sym (take-length s))))
     where
-      not-bare : (marked : Bool) (payload n : ℕ) → payload < n → both marked (eqb payload n) ≡ false
-      not-bare true payload n h = ne_eqb payload n (λ e. omega (arith, e))
-      not-bare false payload n h = refl
+      not_bare : (marked : Bool) (payload n : ℕ) → payload < n → both marked (eqb payload n) ≡ false
+      not_bare true payload n h = ne_eqb payload n (λ e. omega (arith, e))
+      not_bare false payload n h = refl
 
-  empty-range : length s ≤ k.tail.payload → bytes_of (stores s []) p.payload ≡ []
+  empty_range : length s ≤ k.tail.payload → bytes_of (stores s []) p.payload ≡ []
   unfolding packet_of
-  empty-range h = rw k.packet (rest_bytes s k.tail.payload (follows strict s b p k).inside ∙ drop_of_length-le s {i = k.tail.payload} h)
+  empty_range h = rw k.packet (rest_bytes s k.tail.payload (follows strict s b p k).inside ∙ drop_of_length-le s {i = k.tail.payload} h)
 
-  nowhere-none : bytes_of (stores s []) nowhere ≡ []
+  nowhere_none : bytes_of (stores s []) nowhere ≡ []
   unfolding bytes_in
-  nowhere-none = rw (le-leb 0 (length s) (omega arith))
+  nowhere_none = rw (le-leb 0 (length s) (omega arith))
 
   code_is : byte_of p.header.code ≡ get_or s 1 0
   unfolding packet_of header_of
@@ -153,32 +153,32 @@ module _ (strict : Bool) (s : List ℕ) (b : Bytes s) (p : Packet) (k : Taken st
   -- The payload of code 0 is not sent: strict takes none.
   dropped : (mode : Bool) → strict ≡ mode → get_or s 1 0 ≡ 0 → k.tail.payload < length s → bytes_of (stores s []) (sent_payload mode p.header.code p.payload) ≡ []
   dropped true m e h =
-      absurd (omega (arith, k.empty m (raw_code s k.raw k.small.long k.header ∙ e), four (unpaid (meant s k.raw k.tail)), end_is, span-end, ends))
-  dropped false m e h = rw (class_is, e, empty_class) nowhere-none
+      absurd (omega (arith, k.empty m (raw_code s k.raw k.small.long k.header ∙ e), four (unpaid (meant s k.raw k.tail)), end_is, span_end, ends))
+  dropped false m e h = rw (class_is, e, empty_class) nowhere_none
 
-  pub again-bytes : bytes_written strict (stores s []) p ≡ take (sent_end s (span_of p).end (span_of p).payload) s
+  pub again_bytes : bytes_written strict (stores s []) p ≡ take (sent_end s (span_of p).end (span_of p).payload) s
   unfolding sent_end
-  again-bytes =
+  again_bytes =
       let P : ℕ → Type 0 = λ n. bytes_written strict (stores s []) p ≡ take n s in
       subst (λ (n : ℕ). bytes_written strict (stores s []) p ≡ take (sent_end s (span_of p).end n) s) (sym payload_is)
       (on_le P (length s) k.tail.payload
-      (λ h. none-sent (sent_either (λ (r : Range). bytes_of (stores s []) r ≡ []) strict p.header.code p.payload (empty-range h) nowhere-none))
-      (λ h. on_eq P (get_or s 1 0) 0 (λ e. none-sent (dropped strict refl e h)) (λ e. all-sent (sent_other strict p.header.code p.payload (λ z. e (sym code_is ∙ z))) h)))
+      (λ h. none_sent (sent_either (λ (r : Range). bytes_of (stores s []) r ≡ []) strict p.header.code p.payload (empty_range h) nowhere_none))
+      (λ h. on_eq P (get_or s 1 0) 0 (λ e. none_sent (dropped strict refl e h)) (λ e. all_sent (sent_other strict p.header.code p.payload (λ z. e (sym code_is ∙ z))) h)))
 
   module _ (read : reading strict s ≡ given p) where
     keeps : Kept s p
     keeps = on_given (Kept s) (reading strict s) p (kept strict s b) read
 
-    strict-passes : (mode : Bool) → strict ≡ mode → strictly mode p ≡ given tt
+    strict_passes : (mode : Bool) → strict ≡ mode → strictly mode p ≡ given tt
     unfolding strictly
-    strict-passes true m =
+    strict_passes true m =
         let w = (on_given _ (reading true s) p (accepted s b) (ap (λ (x : Bool). reading x s) (sym m) ∙ read) []).0 in
-        passes p (wellformed-strict (stores s []) p keeps.1 (Judged.good (lengths_of (stores s [])) p (keeps.0 [])) w)
-    strict-passes false m = refl
+        passes p (wellformed_strict (stores s []) p keeps.1 (Judged.good (lengths_of (stores s [])) p (keeps.0 [])) w)
+    strict_passes false m = refl
 
-    pub again-answer : (room : ℕ) → writing strict Unlimited room (stores s []) p ≡ fitted room (bytes_written strict (stores s []) p)
+    pub again_answer : (room : ℕ) → writing strict Unlimited room (stores s []) p ≡ fitted room (bytes_written strict (stores s []) p)
     unfolding writing is_too_long limited
-    again-answer room = rw (le-ltb max_store (length s) k.fits, keeps.0 [], strict-passes strict refl)
+    again_answer room = rw (le-ltb max_store (length s) k.fits, keeps.0 [], strict_passes strict refl)
 
 -- What copying shows of a datagram that was judged good.
 pub record Again (strict : Bool) (s : List ℕ) (m : Span) : Type 0 where
@@ -197,22 +197,22 @@ again strict s b m e =
     let g = given_read (reading strict s) m e in
     let p = g.0 in
     let k = on_given (Taken strict s) (reading strict s) p (taken strict s b) g.1 in
-    let all = again-bytes strict s b p k in
+    let all = again_bytes strict s b p k in
     subst (Again strict s) (sym g.2)
     (record {
       long = omega (arith, k.small.long);
       within = end_within s (span_of p).end (span_of p).payload (omega (arith, end_is strict s b p k, bare_length strict s b p k));
-      answer = λ room. ap (copying strict room (stores s [])) g.1 ∙ (again-answer strict s b p k g.1 room ∙ ap (fitted room) all);
+      answer = λ room. ap (copying strict room (stores s [])) g.1 ∙ (again_answer strict s b p k g.1 room ∙ ap (fitted room) all);
       bytes = ap (λ (a : Answer Packet). bytes_written strict (stores s []) (packet_in a)) g.1 ∙ all;
     })
 
 -- What copying answers, and what the output then holds.
 module _ (strict : Bool) (s old : List ℕ) where
-  pub again-refused : (k : ℕ) → reading strict s ≡ refused k
+  pub again_refused : (k : ℕ) → reading strict s ≡ refused k
       → (length_in (refused k) ≡ length_in (copying strict (length old) (stores s []) (reading strict s))) × (old ≡ after (copying strict (length old) (stores s []) (reading strict s)) 0 (bytes_written strict (stores s []) (packet_in (reading strict s))) old)
-  again-refused k e = rw e (refl, refl)
+  again_refused k e = rw e (refl, refl)
 
-  pub again-put : (m : Span) → Again strict s m → (new : List ℕ) (r : Answer ℕ)
+  pub again_put : (m : Span) → Again strict s m → (new : List ℕ) (r : Answer ℕ)
       → (r ≡ fitted (length old) (take (sent_end s m.end m.payload) s)) × (new ≡ after (fitted (length old) (take (sent_end s m.end m.payload) s)) 0 (take (sent_end s m.end m.payload) s) old)
       → (length_in r ≡ length_in (copying strict (length old) (stores s []) (reading strict s))) × (new ≡ after (copying strict (length old) (stores s []) (reading strict s)) 0 (bytes_written strict (stores s []) (packet_in (reading strict s))) old)
-  again-put m a new r h = rw (a.answer (length old), a.bytes) (ap length_in h.0, h.1)
+  again_put m a new r h = rw (a.answer (length old), a.bytes) (ap length_in h.0, h.1)

@@ -36,7 +36,7 @@ use Rattle.measuring.specs.declared.Limit.TheVariants.{Unlimited}
 use Rattle.writing.specs.Writing.{bytes_written, writing}
 use Rattle.flat.specs.Flat.{flat}
 use Rattle.unflat.specs.Made.{Spared, Made}
-use Rattle.unflat.proofs.Inverse.{unflat-flat}
+use Rattle.unflat.proofs.Inverse.{unflat_flat}
 use Rattle.unflat.proofs.Longer.{longer}
 use Rattle.flat_writing.specs.FlatWriting.{packet_over, copying}
 
@@ -143,19 +143,19 @@ module _ (strict : Bool) (s : List ℕ) (b : Bytes s) (p : Packet) (e : reading 
     unfolding packet_over
     read_back rest =
         let k : Kept s p = on_given (Kept s) (reading strict s) p (kept strict s b) e in
-        rw short (longer (flat p) rest p (unflat-flat p k.1 read_made))
+        rw short (longer (flat p) rest p (unflat_flat p k.1 read_made))
 
     -- Nor does it move what is written of the packet.
-    same-written : (mode : Bool) (room : ℕ) → writing mode Unlimited room (stores s edits) p ≡ writing mode Unlimited room (stores s []) p
+    same_written : (mode : Bool) (room : ℕ) → writing mode Unlimited room (stores s edits) p ≡ writing mode Unlimited room (stores s []) p
     unfolding writing is_too_long
-    same-written mode room =
+    same_written mode room =
         let k : Kept s p = on_given (Kept s) (reading strict s) p (kept strict s b) e in
         rw (le-ltb 70000 (length s) read_taken.fits, le-ltb 70000 (length edits) fits, k.0 edits, k.0 [])
         (ap (λ (l : List ℕ). onward (strictly mode p) (λ _. limited Unlimited (counted mode p) (fitted room l)))
         (same_bytes s edits mode p (means strict s b p read_taken edits ∙ sym (means strict s b p read_taken []))))
 
     -- So the flat form of what was read is written as the datagram is copied.
-    pub write-copies : (mode : Bool) (room : ℕ) (rest : List ℕ)
+    pub write_copies : (mode : Bool) (room : ℕ) (rest : List ℕ)
         → copying mode room (stores s edits) (packet_over (stores s edits) (flat p ++ rest)) ≡ copying mode room (stores s []) (reading strict s)
-    write-copies mode room rest =
-        ap (copying mode room (stores s edits)) (read_back rest) ∙ (same-written mode room ∙ sym (ap (copying mode room (stores s [])) e))
+    write_copies mode room rest =
+        ap (copying mode room (stores s edits)) (read_back rest) ∙ (same_written mode room ∙ sym (ap (copying mode room (stores s [])) e))

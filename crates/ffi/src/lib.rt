@@ -4,6 +4,7 @@
 // for the edit store. What takes or gives the flat form has its version in its name, so that a caller of another version
 // does not link.
 #![tactic(auto)]
+
 ghost use Rattle.std.specs.Prelude.{◌≡◌, [], ◌≤◌, length, take};
 ghost use Rattle.refusal.specs.Answer.{written, outcome, after, fitted};
 ghost use Rattle.packet.specs.Packet.{stores};

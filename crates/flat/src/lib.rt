@@ -1,6 +1,7 @@
 // A packet as a row of numbers, its flat form: version, type, code byte, id, home, start and length of the token, home, start
 // and length of the payload, count of records, and then number, home, start and length of each record.
 #![tactic(auto)]
+
 ghost use Rattle.std.specs.Prelude.{◌≡◌, ◌+◌, ◌*◌, ◌≤◌, length};
 ghost use Rattle.std.proofs.lemmas.List.Edits.{sets};
 ghost use Rattle.refusal.specs.Answer.{outcome, after};

@@ -15,10 +15,10 @@ use Rattle.packet.specs.declared.Packet.{Packet}
 use Rattle.judging.specs.Judge.{is_too_long, falling, misordered, bad_value, bad_values, bad_ranges, bad_packet, options_size, judged, judging}
 use Rattle.judging.specs.declared.Lengths.{Lengths}
 use Rattle.judging.specs.declared.Judged.TheVariants.{OptionsSize, BadRecord}
-use Rattle.judging.proofs.Judging.{Judging, Follows, follows, finds, bad-records}
+use Rattle.judging.proofs.Judging.{Judging, Follows, follows, finds, bad_records}
 use Rattle.measuring.specs.Measuring.{strictly, limited, size_fitted, written_size, measured}
 use Rattle.measuring.specs.declared.Limit.TheVariants.{Unlimited}
-use Rattle.measuring.proofs.Sizes.{measured-bad, measured-good}
+use Rattle.measuring.proofs.Sizes.{measured_bad, measured_good}
 use Rattle.unflat.specs.Unflat.{bad_record, bad_numbers, bad_frame, bad_flat, header_in, range_at, record_at, packet_in, unflat}
 use Rattle.unflat.proofs.Unflat.{bad_by, framed, small}
 use Rattle.flat_measuring.specs.FlatMeasuring.{judging_in, measured_in, cut_short, bad_start, bad_next, Sound}
@@ -34,21 +34,21 @@ long_enough l e =
 
 module _ (lengths : Lengths) (l : List ℕ) where
   -- One bad thing is enough for 11, in the numbers or in their packet.
-  pub not-flat : bad_flat l ≡ true → judged BadRecord ≡ judging_in lengths l
+  pub not_flat : bad_flat l ≡ true → judged BadRecord ≡ judging_in lengths l
   unfolding judging_in unflat
-  not-flat e = rw e
+  not_flat e = rw e
 
   bad : bad_packet lengths (packet_in l) ≡ true → judged BadRecord ≡ judging_in lengths l
   unfolding judging_in unflat judging
   bad e = on (λ (a : Answer Packet). refused 11 ≡ onward a (judging lengths)) (bad_flat l) (λ _. refl) (λ _. rw e)
 
-  pub frame-bad : bad_frame l ≡ true → judged BadRecord ≡ judging_in lengths l
+  pub frame_bad : bad_frame l ≡ true → judged BadRecord ≡ judging_in lengths l
   unfolding bad_flat
-  frame-bad e = not-flat (rw e)
+  frame_bad e = not_flat (rw e)
 
-  pub short-bad : cut_short l ≡ true → judged BadRecord ≡ judging_in lengths l
+  pub short_bad : cut_short l ≡ true → judged BadRecord ≡ judging_in lengths l
   unfolding cut_short
-  short-bad e = frame-bad (go (bad_frame l) refl)
+  short_bad e = frame_bad (go (bad_frame l) refl)
     where
       go : (t : Bool) → bad_frame l ≡ t → bad_frame l ≡ true
       go true q = q
@@ -57,9 +57,9 @@ module _ (lengths : Lengths) (l : List ℕ) where
           let short : true ≡ false = sym e ∙ rw (le-ltb (length l) 11 f.head, le-ltb 128 (get_or l 10 0) (small l f.fields).count, le-ltb (length l) (11 + 4 * get_or l 10 0) f.records) in
           cc
 
-  pub start-bad : bad_start lengths l ≡ true → judged BadRecord ≡ judging_in lengths l
+  pub start_bad : bad_start lengths l ≡ true → judged BadRecord ≡ judging_in lengths l
   unfolding bad_packet packet_in header_in
-  start-bad e =
+  start_bad e =
       bad
       (go (ltb 3 (get_or l 0 0)) (misordered (packet_in l)) (bad_ranges lengths (range_at l 4) (range_at l 7)) (bad_values lengths (records_of (packet_in l))) e)
     where
@@ -91,40 +91,40 @@ module _ (lengths : Lengths) (l : List ℕ) where
 
   -- The walk over the records.
   module _ (before size i : ℕ) (w : Judging lengths (records_of (packet_in l)) before size i) (more : i < get_or l 10 0) where
-    pub next-bad : bad_next lengths l before (11 + 4 * i) ≡ true → judged BadRecord ≡ judging_in lengths l
+    pub next_bad : bad_next lengths l before (11 + 4 * i) ≡ true → judged BadRecord ≡ judging_in lengths l
     unfolding bad_next bad_flat
-    next-bad =
+    next_bad =
         let r = record_at l (11 + 4 * i) in
         on (λ (t : Bool). t ≡ true → judged BadRecord ≡ judging_in lengths l) (bad_record l (11 + 4 * i))
-        (λ t _. not-flat (either_right (bad_frame l) (bad_numbers l (get_or l 10 0)) (bad_by l (get_or l 10 0) i more t)))
-        (λ _ e. bad (bad-records lengths (packet_in l) (finds lengths (records_of (packet_in l)) before size i w r (here l i more) e)))
+        (λ t _. not_flat (either_right (bad_frame l) (bad_numbers l (get_or l 10 0)) (bad_by l (get_or l 10 0) i more t)))
+        (λ _ e. bad (bad_records lengths (packet_in l) (finds lengths (records_of (packet_in l)) before size i w r (here l i more) e)))
 
-  pub next-good : (before at : ℕ) → bad_next lengths l before at ≡ false → (bad_record l at ≡ false) × Follows lengths before (record_at l at)
+  pub next_good : (before at : ℕ) → bad_next lengths l before at ≡ false → (bad_record l at ≡ false) × Follows lengths before (record_at l at)
   unfolding bad_next
-  next-good before at e =
+  next_good before at e =
       let parts = neither (bad_record l at) (either (ltb (get_or l at 0) before) (bad_value lengths (record_at l at))) e in
       (parts.0, follows lengths before (record_at l at) parts.1)
 
   -- What is measured, by the judgement.
   module _ (strict : Bool) (room : ℕ) where
-    pub measured-long : is_too_long lengths ≡ true → measured_in strict room lengths l ≡ refused 10
+    pub measured_long : is_too_long lengths ≡ true → measured_in strict room lengths l ≡ refused 10
     unfolding measured_in
-    measured-long h = rw h
+    measured_long h = rw h
 
     module _ (h : is_too_long lengths ≡ false) where
       short : measured_in strict room lengths l ≡ onward (unflat l) (measured strict Unlimited room lengths)
       unfolding measured_in
       short = rw h
 
-      pub measured-refused : refused 11 ≡ judging_in lengths l → measured_in strict room lengths l ≡ refused 11
+      pub measured_refused : refused 11 ≡ judging_in lengths l → measured_in strict room lengths l ≡ refused 11
       unfolding judging_in unflat judging
-      measured-refused e =
+      measured_refused e =
           let next = measured strict Unlimited room lengths in
           short
           ∙ on (λ (a : Answer Packet). refused 11 ≡ onward a (judging lengths) → onward a next ≡ refused 11) (bad_flat l) (λ _ _. refl)
           (λ _. on (λ (a : Answer ℕ). refused 11 ≡ a → next (packet_in l) ≡ refused 11) (bad_packet lengths (packet_in l))
-          (λ u _. measured-bad strict Unlimited room lengths (packet_in l) h u) (λ _ d. not_refused (sym d))) e
+          (λ u _. measured_bad strict Unlimited room lengths (packet_in l) h u) (λ _ d. not_refused (sym d))) e
 
-      pub measured-sound : Sound lengths l → measured_in strict room lengths l ≡ onward (strictly strict (packet_in l)) (λ _. size_fitted room (written_size strict (packet_in l)))
+      pub measured_sound : Sound lengths l → measured_in strict room lengths l ≡ onward (strictly strict (packet_in l)) (λ _. size_fitted room (written_size strict (packet_in l)))
       unfolding unflat limited
-      measured-sound k = short ∙ rw k.flat (measured-good strict Unlimited room lengths (packet_in l) h k.packet)
+      measured_sound k = short ∙ rw k.flat (measured_good strict Unlimited room lengths (packet_in l) h k.packet)

@@ -45,8 +45,8 @@ module _ (lengths : Lengths) (l : List ℕ) (k : Sound lengths l) where
       }
 
   -- A record's number is one of 16 bits.
-  pub number-held : (i : ℕ) → i < get_or l 10 0 → get_or l (11 + 4 * i) 0 ≤ 65535
-  number-held i h = Flat.number_small l (11 + 4 * i) (good_record l (get_or l 10 0) i (Flat.good l k.flat).numbers h)
+  pub number_held : (i : ℕ) → i < get_or l 10 0 → get_or l (11 + 4 * i) 0 ≤ 65535
+  number_held i h = Flat.number_small l (11 + 4 * i) (good_record l (get_or l 10 0) i (Flat.good l k.flat).numbers h)
 
 -- A value that is left is inside its store.
 pub value_held : (lengths : Lengths) (l : List ℕ) (i : ℕ) → i < get_or l 10 0 → bad_values lengths (drop i (records_of (packet_in l))) ≡ false
@@ -57,10 +57,10 @@ value_held lengths l i h e =
 
 -- What is inside the store that a home's number names.
 module _ (s : Stores) (home n : ℕ) (h : n ≤ length_in (lengths_of s) (home_of home)) where
-  pub in-datagram : home ≡ 0 → n ≤ length s.datagram
+  pub in_datagram : home ≡ 0 → n ≤ length s.datagram
   unfolding home_of
-  in-datagram e = rw (eq-eqb home 0 e) at h
+  in_datagram e = rw (eq-eqb home 0 e) at h
 
-  pub in-edits : (home ≡ 0 → ⊥) → n ≤ length s.edits
+  pub in_edits : (home ≡ 0 → ⊥) → n ≤ length s.edits
   unfolding home_of
-  in-edits e = rw (ne_eqb home 0 e) at h
+  in_edits e = rw (ne_eqb home 0 e) at h

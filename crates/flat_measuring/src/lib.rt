@@ -1,6 +1,7 @@
 // What the numbers of a flat form answer when they are written, before a byte is: they are judged where they stand, and no packet
 // is made of them.
 #![tactic(auto)]
+
 ghost use Rattle.std.specs.Prelude.{◌≡◌, ◌+◌, ◌*◌, ◌≤◌, length, get_or};
 ghost use Rattle.refusal.specs.Answer.{written, outcome};
 ghost use Rattle.packet.specs.Limits.{max_options, max_value};

@@ -28,8 +28,8 @@ module _ (l token old mid new : List ℕ) (r : ℕ) (pre : (11 ≤ length l) × 
       let first : get_or l 0 0 * 64 + get_or l 1 0 * 16 + get_or l 6 0 ≡ get_or l 0 0 % 4 * 64 + number_of_type (type_of (get_or l 1 0)) * 16 + length token % 16 = omega (arith, number_back (get_or l 1 0), (small l pre.1).type, pre.2, pre.3, pre.4) in
       λ i. record { ver_type_tkl = first i; code = sym (byte_back (get_or l 2 0)) i; message_id = get_or l 3 0 }
 
-  pub head-laid : mid ≡ after (fitted (length old) (raw_bytes (raw_header_at l))) 0 (raw_bytes (raw_header_at l)) old → Puts mid 4 token r new → LaysHeader (header_in l) token old (Length r) new
+  pub head_laid : mid ≡ after (fitted (length old) (raw_bytes (raw_header_at l))) 0 (raw_bytes (raw_header_at l)) old → Puts mid 4 token r new → LaysHeader (header_in l) token old (Length r) new
   unfolding header_in
-  head-laid e p =
+  head_laid e p =
       head_put (header_in l) token old mid new r pre.2 (omega (arith, pre.3, pre.4)) pre.5
       (subst (λ (raw : HeaderRaw). mid ≡ after (fitted (length old) (raw_bytes raw)) 0 (raw_bytes raw) old) raw_is e) p

@@ -50,8 +50,8 @@ like_put xs ys at vs end l h k e =
 
 module _ (old : List ℕ) (at : ℕ) (end : ℕ) (k : end ≤ length old) where
   -- Bytes of which only the first count.
-  pub loosely-more : (vs ws new : List ℕ) (q : ℕ) → Put old at (vs ++ ws) q new → at + length (vs ++ ws) ≤ end → Loosely old at vs end (at + length vs) new
-  loosely-more vs ws new q p h =
+  pub loosely_more : (vs ws new : List ℕ) (q : ℕ) → Put old at (vs ++ ws) q new → at + length (vs ++ ws) ≤ end → Loosely old at vs end (at + length vs) new
+  loosely_more vs ws new q p h =
       record {
         next = refl;
         like = rw p.out (like_more old old at vs ws end (like_same at end old) h k refl);
@@ -59,8 +59,8 @@ module _ (old : List ℕ) (at : ℕ) (end : ℕ) (k : end ≤ length old) where
       }
 
   -- Bytes that all count.
-  pub loosely-put : (vs new : List ℕ) (r : ℕ) → Put old at vs r new → r ≤ end → Loosely old at vs end r new
-  loosely-put vs new r p h =
+  pub loosely_put : (vs new : List ℕ) (r : ℕ) → Put old at vs r new → r ≤ end → Loosely old at vs end r new
+  loosely_put vs new r p h =
       record {
         next = p.next;
         like = rw (p.out, p.next) (like_put old old at vs end (like_same at end old) (omega (arith, p.next)) k refl);
@@ -68,8 +68,8 @@ module _ (old : List ℕ) (at : ℕ) (end : ℕ) (k : end ≤ length old) where
       }
 
   -- One piece after the other.
-  pub loosely-then : (vs ws mid new : List ℕ) (b r : ℕ) → Loosely old at vs end b mid → Loosely mid b ws end r new → r ≤ end → Loosely old at (vs ++ ws) end r new
-  loosely-then vs ws mid new b r p q h =
+  pub loosely_then : (vs ws mid new : List ℕ) (b r : ℕ) → Loosely old at vs end b mid → Loosely mid b ws end r new → r ≤ end → Loosely old at (vs ++ ws) end r new
+  loosely_then vs ws mid new b r p q h =
       let same : length mid ≡ length (sets old at vs) = p.kept ∙ sym (length-sets old at vs) in
       let both : Like (b + length ws) end (sets mid b ws) (sets (sets old at vs) b ws) = like_put mid (sets old at vs) b ws end p.like (omega (arith, q.next)) (omega (arith, p.kept)) same in
       record {

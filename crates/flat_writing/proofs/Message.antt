@@ -17,10 +17,10 @@ use Rattle.packet.specs.Meaning.{meaning}
 use Rattle.judging.specs.Judge.{lengths_of}
 use Rattle.judging.proofs.Ranges.{range_exactly}
 use Rattle.laying.specs.Laying.{laid, LaysHeader, LaysPayload}
-use Rattle.laying.proofs.Laid.{lays-given, lays-put}
+use Rattle.laying.proofs.Laid.{lays_given, lays_put}
 use Rattle.writing.specs.Writing.{sent, bytes_written}
 use Rattle.writing.proofs.Sizes.{message_length}
-use Rattle.writing.proofs.Parts.{head-kept, options-within, last-given, whole}
+use Rattle.writing.proofs.Parts.{head_kept, options_within, last_given, whole}
 use Rattle.unflat.specs.Unflat.{bad_head, header_in, range_at, packet_in}
 use Rattle.flat_measuring.specs.FlatMeasuring.{Sound, sent_in}
 use Rattle.flat_measuring.proofs.Sent.{sent_is}
@@ -29,16 +29,16 @@ use Rattle.flat_writing.specs.Loosely.{Like, Loosely}
 use Rattle.flat_writing.proofs.Loosely.{like_put, like_end}
 
 module _ (strict : Bool) (s : Stores) (l old : List ℕ) (k : Sound (lengths_of s) l) (room : length (bytes_written strict s (packet_in l)) ≤ length old) where
-  token-room : 4 + length (bytes_of s (range_at l 4)) ≤ length (bytes_written strict s (packet_in l))
+  token_room : 4 + length (bytes_of s (range_at l 4)) ≤ length (bytes_written strict s (packet_in l))
   unfolding packet_in
-  token-room = omega (arith, message_length (meaning s (sent strict (packet_in l))))
+  token_room = omega (arith, message_length (meaning s (sent strict (packet_in l))))
 
   module _ (token : List ℕ) (t : token ≡ bytes_of s (range_at l 4)) where
     -- What `put_head` asks.
-    pub head-fits : (11 ≤ length l) × (bad_head l ≡ false) × (get_or l 0 0 ≤ 3) × (length token ≡ get_or l 6 0) × (get_or l 6 0 ≤ 15) × (4 + length token ≤ length old)
-    head-fits =
+    pub head_fits : (11 ≤ length l) × (bad_head l ≡ false) × (get_or l 0 0 ≤ 3) × (length token ≡ get_or l 6 0) × (get_or l 6 0 ≤ 15) × (4 + length token ≤ length old)
+    head_fits =
         let p = places (lengths_of s) l k in
-        (p.head, p.fields, p.version, ap length t ∙ range_exactly s (range_at l 4) p.token, p.token_length, omega (arith, room, token-room, ap length t))
+        (p.head, p.fields, p.version, ap length t ∙ range_exactly s (range_at l 4) p.token, p.token_length, omega (arith, room, token_room, ap length t))
 
     module _ (first : ℕ) (mid : List ℕ) (h : LaysHeader (header_in l) token old (Length first) mid) where
       head : LaysHeader (packet_in l).header (meaning s (sent strict (packet_in l))).token old (Length first) mid
@@ -46,10 +46,10 @@ module _ (strict : Bool) (s : Stores) (l old : List ℕ) (k : Sound (lengths_of 
       head = subst (λ (x : List ℕ). LaysHeader (header_in l) x old (Length first) mid) t h
 
       -- The options end within the message, and there is room for all of it.
-      pub options-fit : (first + length (options_layout 0 (meaning s (packet_in l)).options) ≤ length (bytes_written strict s (packet_in l))) × (length (bytes_written strict s (packet_in l)) ≤ length mid)
-      options-fit =
-          let kept = head-kept strict s (packet_in l) old k.packet room (Length first) first mid head refl in
-          (options-within strict s (packet_in l) old k.packet room (Length first) first mid head refl, omega (arith, room, kept))
+      pub options_fit : (first + length (options_layout 0 (meaning s (packet_in l)).options) ≤ length (bytes_written strict s (packet_in l))) × (length (bytes_written strict s (packet_in l)) ≤ length mid)
+      options_fit =
+          let kept = head_kept strict s (packet_in l) old k.packet room (Length first) first mid head refl in
+          (options_within strict s (packet_in l) old k.packet room (Length first) first mid head refl, omega (arith, room, kept))
 
       module _ (out : List ℕ) (next : ℕ) (o : Loosely mid first (options_layout 0 (meaning s (packet_in l)).options) (length (bytes_written strict s (packet_in l))) next out) (payload : List ℕ) (y : payload ≡ bytes_of s (sent_in strict l)) where
         payload_is : payload ≡ (meaning s (sent strict (packet_in l))).payload
@@ -59,34 +59,34 @@ module _ (strict : Bool) (s : Stores) (l old : List ℕ) (k : Sound (lengths_of 
         abbrev exact : List ℕ
         exact = sets mid first (options_layout 0 (meaning s (packet_in l)).options)
 
-        options-put : Put mid first (options_layout 0 (meaning s (packet_in l)).options) next exact
-        options-put = record { next = o.next; out = refl }
+        options_put : Put mid first (options_layout 0 (meaning s (packet_in l)).options) next exact
+        options_put = record { next = o.next; out = refl }
 
         same : length out ≡ length exact
         same = o.kept ∙ sym (length-sets mid first (options_layout 0 (meaning s (packet_in l)).options))
 
-        exact-fits : laid (length exact) next (payload_layout payload) ≡ given (length (payload_layout payload))
-        exact-fits =
+        exact_fits : laid (length exact) next (payload_layout payload) ≡ given (length (payload_layout payload))
+        exact_fits =
             subst (λ (x : List ℕ). laid (length exact) next (payload_layout x) ≡ given (length (payload_layout x))) (sym payload_is)
-            (last-given strict s (packet_in l) old k.packet room (Length first) first mid head refl exact next options-put)
+            (last_given strict s (packet_in l) old k.packet room (Length first) first mid head refl exact next options_put)
 
         -- The payload is laid, and then all is put: nothing is loose any more.
-        pub payload-fits : laid (length out) next (payload_layout payload) ≡ given (length (payload_layout payload))
-        payload-fits = rw same exact-fits
+        pub payload_fits : laid (length out) next (payload_layout payload) ≡ given (length (payload_layout payload))
+        payload_fits = rw same exact_fits
 
         exactly : Put old 0 (bytes_written strict s (packet_in l)) (next + length (payload_layout payload)) (sets exact next (payload_layout payload))
         exactly =
             let bytes = payload_layout payload in
-            let laid-there = lays-given _ next bytes exact (length bytes) (sets exact next bytes) exact-fits refl in
-            whole strict s (packet_in l) old k.packet room (Length first) first mid head refl exact next options-put (Length (length bytes)) (length bytes) (sets exact next bytes)
+            let laid-there = lays_given _ next bytes exact (length bytes) (sets exact next bytes) exact_fits refl in
+            whole strict s (packet_in l) old k.packet room (Length first) first mid head refl exact next options_put (Length (length bytes)) (length bytes) (sets exact next bytes)
             (subst (λ (x : List ℕ). LaysPayload x next exact (Length (length bytes)) (sets exact next bytes)) payload_is laid-there) refl
 
-        pub message-put : (final : Written) (n : ℕ) (new : List ℕ) → LaysPayload payload next out final new → written final ≡ given n → Put old 0 (bytes_written strict s (packet_in l)) (next + n) new
-        message-put final n new m v =
+        pub message_put : (final : Written) (n : ℕ) (new : List ℕ) → LaysPayload payload next out final new → written final ≡ given n → Put old 0 (bytes_written strict s (packet_in l)) (next + n) new
+        message_put final n new m v =
             let bytes = payload_layout payload in
             let end = length (bytes_written strict s (packet_in l)) in
-            let p = lays-put _ next bytes out final n new payload-fits m v in
+            let p = lays_put _ next bytes out final n new payload_fits m v in
             let ends : next + length bytes ≡ end = exactly.next ∙ zero-add end in
-            let fits : end ≤ length out = omega (arith, room, o.kept, options-fit.1) in
+            let fits : end ≤ length out = omega (arith, room, o.kept, options_fit.1) in
             let like : Like end end (sets out next bytes) (sets exact next bytes) = rw ends at (like_put out exact next bytes end o.like (omega (arith, ends)) fits same) in
             record { next = p.next ∙ exactly.next; out = p.out ∙ (like_end end _ _ like ∙ exactly.out) }

@@ -14,10 +14,10 @@ use Rattle.packet.specs.Packet.{Stores, store_of, bytes_in, value_of}
 use Rattle.packet.specs.Meaning.{option_of}
 use Rattle.packet.specs.declared.OptionRecord.{OptionRecord}
 use Rattle.judging.specs.Judge.{lengths_of, falling, bad_value, bad_values}
-use Rattle.judging.proofs.Good.{value_inside, value-length}
+use Rattle.judging.proofs.Good.{value_inside, value_length}
 use Rattle.judging.proofs.Ranges.{length_in_lem, value_exactly}
 use Rattle.laying.specs.Laying.{size_of}
-use Rattle.laying.proofs.Laid.{lays-given}
+use Rattle.laying.proofs.Laid.{lays_given}
 use Rattle.laying.proofs.Pieces.{option_delta, option_length}
 use Rattle.writing.proofs.Options.{Putting, leftover}
 use Rattle.writing.proofs.Options as Exactly
@@ -57,7 +57,7 @@ module _ (s : Stores) (rs : List OptionRecord) (old : List ℕ) (from end : ℕ)
           let same : length out ≡ length g.exact = g.kept ∙ sym g.putting.kept in
           record {
             exact = sets g.exact next bytes;
-            putting = rw l.next (Exactly.turn s rs old from g.exact before next i g.putting r d (Length (length bytes)) (length bytes) _ (lays-given _ next bytes g.exact (length bytes) _ given refl) refl);
+            putting = rw l.next (Exactly.turn s rs old from g.exact before next i g.putting r d (Length (length bytes)) (length bytes) _ (lays_given _ next bytes g.exact (length bytes) _ given refl) refl);
             like = like_like q end new (sets out next bytes) _ l.like (rw l.next (like_put out g.exact next bytes end g.like room (omega (arith, g.kept)) same));
             kept = l.kept ∙ g.kept;
           }
@@ -67,16 +67,16 @@ module _ (s : Stores) (rs : List OptionRecord) (old : List ℕ) (from end : ℕ)
         inside = omega (arith, value_inside (lengths_of s) r good.0, ap length e ∙ length_in_lem s r.home)
 
         -- The value's bytes are that part of its store.
-        value-is : part store r.start r.len ≡ value_of s r
+        value_is : part store r.start r.len ≡ value_of s r
         unfolding bytes_in
-        value-is = rw (sym e, le-leb (r.start + r.len) (length store) inside)
+        value_is = rw (sym e, le-leb (r.start + r.len) (length store) inside)
 
         layout_is : option_layout 0 (record { number = r.number - before; value = part store r.start r.len }) ≡ option_layout before (option_of s r)
-        layout_is = option_delta before r.number (part store r.start r.len) ∙ ap (λ (v : List ℕ). option_layout before (record { number = r.number; value = v })) value-is
+        layout_is = option_delta before r.number (part store r.start r.len) ∙ ap (λ (v : List ℕ). option_layout before (record { number = r.number; value = v })) value_is
 
-        pub option-fits : (r.len ≤ 65804) × (r.start + r.len ≤ length store) × (next + size_of (r.number - before) r.len ≤ end)
-        option-fits =
-            (value-length (lengths_of s) r good.0, inside, omega (arith, room, rw (value_exactly s r good.0) at (option_length before (option_of s r))))
+        pub option_fits : (r.len ≤ 65804) × (r.start + r.len ≤ length store) × (next + size_of (r.number - before) r.len ≤ end)
+        option_fits =
+            (value_length (lengths_of s) r good.0, inside, omega (arith, room, rw (value_exactly s r good.0) at (option_length before (option_of s r))))
 
         -- One option more was put.
         pub turn : (q : ℕ) (new : List ℕ) → Loosely out next (option_layout 0 (record { number = r.number - before; value = part store r.start r.len })) end q new → Going s rs old from end new r.number q (i + 1)

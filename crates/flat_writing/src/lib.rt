@@ -1,6 +1,7 @@
 // Writing a message straight from a packet's flat form: the numbers are measured first, and then the bytes are put; no packet is
 // made of them.
 #![tactic(auto)]
+
 ghost use Rattle.std.specs.Prelude.{◌≡◌, Bool, ℕ, ◌+◌, ◌≤◌, length, get_or, take, leb};
 ghost use Rattle.ground.specs.Choice.{both};
 ghost use Rattle.ground.specs.Part.{part};

@@ -1,5 +1,6 @@
 // Requests on frames: a datagram to its frame over TCP, and back with a type and an id.
 #![tactic(auto)]
+
 use framing::{from_frame, to_frame};
 use header::MessageType;
 use rooms::{fill, told};

@@ -34,7 +34,7 @@ use Rattle.framing.specs.Judging.{judged}
 use Rattle.framing.specs.Framing.{framed, strictly, header_for, datagram_of, unframed, Whole, frame_of, Converts}
 use Rattle.framing.specs.declared.Head.{Head}
 use Rattle.framing.specs.declared.HeadBytes.{HeadBytes}
-use Rattle.framing.proofs.Judged.{strictly-judged, strictly_long}
+use Rattle.framing.proofs.Judged.{strictly_judged, strictly_long}
 
 -- A refused conversion.
 pub not_converted : (a : Answer (List ℕ)) (old : List ℕ) (e : Refusal) → a ≡ refused (number_of e) → Converts a old (Refused e) old
@@ -47,9 +47,9 @@ framed_refused s k e = rw (accepting_refused true s k e)
 
 -- The frame of a well-formed message, by the bytes of its layout.
 module _ (m : Message) (w : WellFormed m) where
-  token-in : get_or (layout m) 0 0 % 16 ≡ length m.token
+  token_in : get_or (layout m) 0 0 % 16 ≡ length m.token
   unfolding layout header_layout
-  token-in = omega (arith, w.type, w.token_length)
+  token_in = omega (arith, w.type, w.token_length)
 
   long : length (layout m) ≡ 4 + (length m.token + length (body m))
   unfolding layout header_layout
@@ -59,10 +59,10 @@ module _ (m : Message) (w : WellFormed m) where
   unfolding frame frame_of layout header_layout
   frame_is =
       let rest : length (layout m) - 4 - length m.token ≡ length (body m) = omega (arith, long) in
-      rw (token-in, rest) refl
+      rw (token_in, rest) refl
 
-  token-fits : 4 + get_or (layout m) 0 0 % 16 ≤ length (layout m)
-  token-fits = omega (arith, token-in, long)
+  token_fits : 4 + get_or (layout m) 0 0 % 16 ≤ length (layout m)
+  token_fits = omega (arith, token_in, long)
 
 -- Where it accepts, the datagram is short and has its token, and its frame is made of its bytes.
 module _ (s : List ℕ) (b : Bytes s) (e : accepting true s ≡ given tt) where
@@ -76,8 +76,8 @@ module _ (s : List ℕ) (b : Bytes s) (e : accepting true s ≡ given tt) where
   unfolding reading
   short = by_lt 70000 (length s) (λ h. let long : reading true s ≡ refused 10 = rw (lt-ltb 70000 (length s) h) in not_refused (sym read.1 ∙ long)) (λ h. h)
 
-  pub accepted-whole : Whole s
-  accepted-whole = record { token = subst (λ (l : List ℕ). 4 + get_or l 0 0 % 16 ≤ length l) laid.1 (token-fits (meaning (stores s []) read.0) laid.0); short = short }
+  pub accepted_whole : Whole s
+  accepted_whole = record { token = subst (λ (l : List ℕ). 4 + get_or l 0 0 % 16 ≤ length l) laid.1 (token_fits (meaning (stores s []) read.0) laid.0); short = short }
 
   pub framed_is : framed s ≡ given (frame_of s)
   unfolding framed
@@ -107,35 +107,35 @@ module _ (kind : MessageType) (id : ℕ) (f : List ℕ) (h : Head) (w : Within f
   pub too_long : 70000 - 4 < length f - h.token_at → strictly (datagram_of kind id f h) ≡ refused 10
   too_long l = strictly_long (header_for kind id h) (drop h.token_at f) (rw length-drop (omega arith))
 
-  pub judged-so : length f - h.token_at ≤ 70000 - 4
+  pub judged_so : length f - h.token_at ≤ 70000 - 4
       → strictly (datagram_of kind id f h) ≡ onward (judged h.code h.token_length (drop (h.token_at + h.token_length) f)) (λ _. given (datagram_of kind id f h))
-  judged-so l =
+  judged_so l =
       let fits : 4 + length (drop h.token_at f) ≤ 70000 = rw length-drop (omega arith) in
       let inside : token_of (header_for kind id h) ≤ length (drop h.token_at f) = rw (length-drop, token) (omega (arith, w.token)) in
-      strictly-judged (header_for kind id h) (drop h.token_at f) version fits inside ∙ rw (token, rest)
+      strictly_judged (header_for kind id h) (drop h.token_at f) version fits inside ∙ rw (token, rest)
 
   -- What the judgement refuses, and what it lets pass.
   module _ (l : length f - h.token_at ≤ 70000 - 4) (o : Outcome) (j : outcome o ≡ judged h.code h.token_length (take (length f - (h.token_at + h.token_length)) (drop (h.token_at + h.token_length) f))) where
     told : judged h.code h.token_length (drop (h.token_at + h.token_length) f) ≡ outcome o
     told = rw (← all_left f (h.token_at + h.token_length)) (sym j)
 
-    pub back-refused : (old : List ℕ) (e : Refusal) → o ≡ Not e → Converts (strictly (datagram_of kind id f h)) old (Refused e) old
-    back-refused old e is =
+    pub back_refused : (old : List ℕ) (e : Refusal) → o ≡ Not e → Converts (strictly (datagram_of kind id f h)) old (Refused e) old
+    back_refused old e is =
         not_converted (strictly (datagram_of kind id f h)) old e
-        (judged-so l ∙ ap (λ (a : Answer (Unit {0})). onward a (λ _. given (datagram_of kind id f h))) (told ∙ ap outcome is))
+        (judged_so l ∙ ap (λ (a : Answer (Unit {0})). onward a (λ _. given (datagram_of kind id f h))) (told ∙ ap outcome is))
 
-    pub back-given : o ≡ Done → strictly (datagram_of kind id f h) ≡ given (raw_bytes (header_for kind id h) ++ take (length f - h.token_at) (drop h.token_at f))
-    back-given is =
-        judged-so l
+    pub back_given : o ≡ Done → strictly (datagram_of kind id f h) ≡ given (raw_bytes (header_for kind id h) ++ take (length f - h.token_at) (drop h.token_at f))
+    back_given is =
+        judged_so l
         ∙ (ap (λ (a : Answer (Unit {0})). onward a (λ _. given (datagram_of kind id f h))) (told ∙ ap outcome is)
         ∙ ap (λ (r : List ℕ). given (raw_bytes (header_for kind id h) ++ r)) (sym (all_left f h.token_at)))
 
 -- The head decides, or leaves the answer to what follows it.
 module _ (kind : MessageType) (id : ℕ) (f : List ℕ) where
-  pub head-refused : (k : ℕ) → head_in f ≡ refused k → unframed kind id f ≡ refused k
+  pub head_refused : (k : ℕ) → head_in f ≡ refused k → unframed kind id f ≡ refused k
   unfolding unframed
-  head-refused k e = rw e
+  head_refused k e = rw e
 
-  pub head-given : (h : Head) → head_in f ≡ given h → unframed kind id f ≡ strictly (datagram_of kind id f h)
+  pub head_given : (h : Head) → head_in f ≡ given h → unframed kind id f ≡ strictly (datagram_of kind id f h)
   unfolding unframed
-  head-given h e = rw e
+  head_given h e = rw e

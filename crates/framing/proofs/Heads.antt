@@ -10,7 +10,7 @@ use Rattle.ground.specs.Part.{Bytes}
 use Rattle.ground.proofs.Choice.{by_lt, by_eq, on_lt, on_eq}
 use Rattle.ground.proofs.Part.{byte_at}
 use Rattle.rfc.specs.Frame.{frame_head}
-use Rattle.rfc.proofs.Frame.{none-nibble, none-extension, one-nibble, one-extension, two-nibble, two-extension, four-nibble, four-extension}
+use Rattle.rfc.proofs.Frame.{none_nibble, none_extension, one_nibble, one_extension, two_nibble, two_extension, four_nibble, four_extension}
 use Rattle.refusal.specs.Answer.{given, refused}
 use Rattle.refusal.proofs.Answers.{Given, on_given}
 use Rattle.framing.specs.Head.{extra, length_in, head_of, head_in, Within}
@@ -18,21 +18,21 @@ use Rattle.framing.specs.declared.Head.{Head}
 
 -- The head of a frame by the class of its length.
 module _ (n t c : ℕ) where
-  pub head-none : n < 13 → frame_head n t c ≡ ((n * 16 + t) ∷ c ∷ [])
+  pub head_none : n < 13 → frame_head n t c ≡ ((n * 16 + t) ∷ c ∷ [])
   unfolding frame_head
-  head-none h = rw (none-nibble n h, none-extension n h)
+  head_none h = rw (none_nibble n h, none_extension n h)
 
-  pub head-one : 13 ≤ n → n < 269 → frame_head n t c ≡ ((13 * 16 + t) ∷ (n - 13) ∷ c ∷ [])
+  pub head_one : 13 ≤ n → n < 269 → frame_head n t c ≡ ((13 * 16 + t) ∷ (n - 13) ∷ c ∷ [])
   unfolding frame_head
-  head-one h l = rw (one-nibble n h l, one-extension n h l)
+  head_one h l = rw (one_nibble n h l, one_extension n h l)
 
-  pub head-two : 269 ≤ n → n < 65805 → frame_head n t c ≡ ((14 * 16 + t) ∷ ((n - 269) / 256) ∷ ((n - 269) % 256) ∷ c ∷ [])
+  pub head_two : 269 ≤ n → n < 65805 → frame_head n t c ≡ ((14 * 16 + t) ∷ ((n - 269) / 256) ∷ ((n - 269) % 256) ∷ c ∷ [])
   unfolding frame_head
-  head-two h l = rw (two-nibble n h l, two-extension n h l)
+  head_two h l = rw (two_nibble n h l, two_extension n h l)
 
-  pub head-four : 65805 ≤ n → frame_head n t c ≡ ((15 * 16 + t) ∷ ((n - 65805) / 16777216) ∷ ((n - 65805) / 65536 % 256) ∷ ((n - 65805) / 256 % 256) ∷ ((n - 65805) % 256) ∷ c ∷ [])
+  pub head_four : 65805 ≤ n → frame_head n t c ≡ ((15 * 16 + t) ∷ ((n - 65805) / 16777216) ∷ ((n - 65805) / 65536 % 256) ∷ ((n - 65805) / 256 % 256) ∷ ((n - 65805) % 256) ∷ c ∷ [])
   unfolding frame_head
-  head-four h = rw (four-nibble n h, four-extension n h)
+  head_four h = rw (four_nibble n h, four_extension n h)
 
 -- What a nibble below 13 calls for.
 pub none_extra : (nibble : ℕ) → nibble < 13 → extra nibble ≡ 0
@@ -69,29 +69,29 @@ module _ (n t c : ℕ) (small : t < 16) (rest : List ℕ) (long : length rest �
   back_none h =
       let f : List ℕ = (n * 16 + t) ∷ c ∷ rest in
       let z : extra n ≡ 0 = none_extra n h in
-      rw (head-none n t c h) (nibbles f n t refl small ∙ (head_is f n t (rw (z, none_length f n h) (omega arith)) ∙ rw z))
+      rw (head_none n t c h) (nibbles f n t refl small ∙ (head_is f n t (rw (z, none_length f n h) (omega arith)) ∙ rw z))
 
   back_one : 13 ≤ n → n < 269 → head_in (frame_head n t c ++ rest) ≡ given (head_for n t c)
   unfolding extra length_in
   back_one h l =
       let f : List ℕ = (13 * 16 + t) ∷ (n - 13) ∷ c ∷ rest in
-      rw (head-one n t c h l) (nibbles f 13 t refl small ∙ head_is f 13 t (omega arith))
+      rw (head_one n t c h l) (nibbles f 13 t refl small ∙ head_is f 13 t (omega arith))
 
-  back-two : 269 ≤ n → n < 65805 → head_in (frame_head n t c ++ rest) ≡ given (head_for n t c)
+  back_two : 269 ≤ n → n < 65805 → head_in (frame_head n t c ++ rest) ≡ given (head_for n t c)
   unfolding extra length_in
-  back-two h l =
+  back_two h l =
       let f : List ℕ = (14 * 16 + t) ∷ ((n - 269) / 256) ∷ ((n - 269) % 256) ∷ c ∷ rest in
-      rw (head-two n t c h l) (nibbles f 14 t refl small ∙ head_is f 14 t (omega arith))
+      rw (head_two n t c h l) (nibbles f 14 t refl small ∙ head_is f 14 t (omega arith))
 
-  back-four : 65805 ≤ n → head_in (frame_head n t c ++ rest) ≡ given (head_for n t c)
+  back_four : 65805 ≤ n → head_in (frame_head n t c ++ rest) ≡ given (head_for n t c)
   unfolding extra length_in
-  back-four h =
+  back_four h =
       let f : List ℕ = (15 * 16 + t) ∷ ((n - 65805) / 16777216) ∷ ((n - 65805) / 65536 % 256) ∷ ((n - 65805) / 256 % 256) ∷ ((n - 65805) % 256) ∷ c ∷ rest in
-      rw (head-four n t c h) (nibbles f 15 t refl small ∙ head_is f 15 t (omega arith))
+      rw (head_four n t c h) (nibbles f 15 t refl small ∙ head_is f 15 t (omega arith))
 
   -- The head of a frame is read back.
-  pub head-back : head_in (frame_head n t c ++ rest) ≡ given (head_for n t c)
-  head-back = by_lt n 13 back_none (λ h. by_lt n 269 (back_one h) (λ l. by_lt n 65805 (back-two l) back-four))
+  pub head_back : head_in (frame_head n t c ++ rest) ≡ given (head_for n t c)
+  head_back = by_lt n 13 back_none (λ h. by_lt n 269 (back_one h) (λ l. by_lt n 65805 (back_two l) back_four))
 
 -- A head that was read: it stands at the frame's front, made of the length that is left.
 pub record Stands (f : List ℕ) (h : Head) : Type 0 where
@@ -112,8 +112,8 @@ module _ (f : List ℕ) (b : Bytes f) where
   six : 6 ≤ length f → take 6 f ≡ (get_or f 0 0 ∷ get_or f 1 0 ∷ get_or f 2 0 ∷ get_or f 3 0 ∷ get_or f 4 0 ∷ get_or f 5 0 ∷ [])
   six h = rw (take-suc f 5 0 (omega arith), take-suc f 4 0 (omega arith), four (omega arith)) refl
 
-  nibble-small : get_or f 0 0 / 16 < 16
-  nibble-small = omega (arith, byte_at f 0 b)
+  nibble_small : get_or f 0 0 / 16 < 16
+  nibble_small = omega (arith, byte_at f 0 b)
 
   -- What a head by its nibbles stands for.
   abbrev Laid : ℕ → Type 0
@@ -123,7 +123,7 @@ module _ (f : List ℕ) (b : Bytes f) where
   laid_none nibble e h fits =
       let z : extra nibble ≡ 0 = none_extra nibble h in
       let first : nibble * 16 + get_or f 0 0 % 16 ≡ get_or f 0 0 = omega arith in
-      rw (z, none_length f nibble h, head-none nibble (get_or f 0 0 % 16) (get_or f 1 0) h, first) (sym (two (omega arith)))
+      rw (z, none_length f nibble h, head_none nibble (get_or f 0 0 % 16) (get_or f 1 0) h, first) (sym (two (omega arith)))
 
   laid_one : get_or f 0 0 / 16 ≡ 13 → Laid 13
   unfolding extra length_in
@@ -131,22 +131,22 @@ module _ (f : List ℕ) (b : Bytes f) where
       let x : ℕ = get_or f 1 0 in
       let first : 13 * 16 + get_or f 0 0 % 16 ≡ get_or f 0 0 = omega arith in
       let more : 13 + x - 13 ≡ x = omega arith in
-      rw (head-one (13 + x) (get_or f 0 0 % 16) (get_or f 2 0) (omega arith) (omega (arith, byte_at f 1 b)), first, more) (sym (three (omega arith)))
+      rw (head_one (13 + x) (get_or f 0 0 % 16) (get_or f 2 0) (omega arith) (omega (arith, byte_at f 1 b)), first, more) (sym (three (omega arith)))
 
-  laid-two : get_or f 0 0 / 16 ≡ 14 → Laid 14
+  laid_two : get_or f 0 0 / 16 ≡ 14 → Laid 14
   unfolding extra length_in
-  laid-two e fits =
+  laid_two e fits =
       let x : ℕ = get_or f 1 0 in
       let y : ℕ = get_or f 2 0 in
       let n : ℕ = 269 + (x * 256 + y) in
       let first : 14 * 16 + get_or f 0 0 % 16 ≡ get_or f 0 0 = omega arith in
       let high : (n - 269) / 256 ≡ x = omega (arith, byte_at f 2 b) in
       let low : (n - 269) % 256 ≡ y = omega (arith, byte_at f 2 b) in
-      rw (head-two n (get_or f 0 0 % 16) (get_or f 3 0) (omega arith) (omega (arith, byte_at f 1 b, byte_at f 2 b)), first, high, low) (sym (four (omega arith)))
+      rw (head_two n (get_or f 0 0 % 16) (get_or f 3 0) (omega arith) (omega (arith, byte_at f 1 b, byte_at f 2 b)), first, high, low) (sym (four (omega arith)))
 
-  laid-four : get_or f 0 0 / 16 ≡ 15 → Laid 15
+  laid_four : get_or f 0 0 / 16 ≡ 15 → Laid 15
   unfolding extra length_in
-  laid-four e fits =
+  laid_four e fits =
       let x : ℕ = get_or f 1 0 in
       let y : ℕ = get_or f 2 0 in
       let z : ℕ = get_or f 3 0 in
@@ -160,14 +160,14 @@ module _ (f : List ℕ) (b : Bytes f) where
       let c : (n - 65805) / 65536 % 256 ≡ y = omega arith in
       let d : (n - 65805) / 256 % 256 ≡ z = omega arith in
       let g : (n - 65805) % 256 ≡ w = omega arith in
-      rw (head-four n (get_or f 0 0 % 16) (get_or f 5 0) (omega arith), first, a, c, d, g) (sym (six (omega arith)))
+      rw (head_four n (get_or f 0 0 % 16) (get_or f 5 0) (omega arith), first, a, c, d, g) (sym (six (omega arith)))
 
   laid : (nibble : ℕ) → get_or f 0 0 / 16 ≡ nibble → Laid nibble
   laid nibble e =
       by_lt nibble 13 (laid_none nibble e)
       (λ h. by_eq nibble 13 (λ is. rw is (laid_one (e ∙ is)))
-      (λ n. by_eq nibble 14 (λ is. rw is (laid-two (e ∙ is)))
-      (λ m. let is : nibble ≡ 15 = omega (arith, nibble-small, n, m) in rw is (laid-four (e ∙ is)))))
+      (λ n. by_eq nibble 14 (λ is. rw is (laid_two (e ∙ is)))
+      (λ m. let is : nibble ≡ 15 = omega (arith, nibble_small, n, m) in rw is (laid_four (e ∙ is)))))
 
   pub stands : Given (Stands f) (head_in f)
   unfolding head_of

@@ -17,8 +17,8 @@ use Rattle.reading.specs.Options.{Tail, options, on_place, before}
 use Rattle.framing.specs.Judging.{end_judged, options_judged}
 
 -- A value and a place that are found `k` bytes further on.
-abbrev value_on : ℕ → Value → Answer Value
-value_on k v = given (record { value = v.value; next = k + v.next })
+abbrev value_moved : ℕ → Value → Answer Value
+value_moved k v = given (record { value = v.value; next = k + v.next })
 
 abbrev place_on : ℕ → Place → Answer Place
 place_on k (ended marked payload) = given (ended marked (k + payload))
@@ -46,31 +46,31 @@ module _ (s : List ℕ) (k : ℕ) (inside : k ≤ length s) where
   whole : length s ≡ k + length (drop k s)
   whole = rw length-drop (omega arith)
 
-  extended-on : (over most at nibble : ℕ) → extended over most s (k + at) nibble ≡ onward (extended over most (drop k s) at nibble) (value_on k)
+  extended_on : (over most at nibble : ℕ) → extended over most s (k + at) nibble ≡ onward (extended over most (drop k s) at nibble) (value_moved k)
   unfolding extended
-  extended-on over most at nibble = rw (left at, past at 1, past at 2, byte at, byte (at + 1)) (sym (simp onward_pick))
+  extended_on over most at nibble = rw (left at, past at 1, past at 2, byte at, byte (at + 1)) (sym (simp onward_pick))
 
   value_on : (number start len : ℕ) → value_at s number (k + start) len ≡ onward (value_at (drop k s) number start len) (place_on k)
   unfolding value_at
   value_on number start len = rw (left start) (sym (simp onward_pick))
 
-  after-length : (number : ℕ) (a : Answer Value) → onward (onward a (value_on k)) (λ len. value_at s number len.next len.value) ≡ onward (onward a (λ len. value_at (drop k s) number len.next len.value)) (place_on k)
-  after-length number (given v) = value_on number v.next v.value
-  after-length number (refused j) = refl
+  after_length : (number : ℕ) (a : Answer Value) → onward (onward a (value_moved k)) (λ len. value_at s number len.next len.value) ≡ onward (onward a (λ len. value_at (drop k s) number len.next len.value)) (place_on k)
+  after_length number (given v) = value_on number v.next v.value
+  after_length number (refused j) = refl
 
-  length-on : (longest number at nibble : ℕ) → length_at longest s number (k + at) nibble ≡ onward (length_at longest (drop k s) number at nibble) (place_on k)
+  length_on : (longest number at nibble : ℕ) → length_at longest s number (k + at) nibble ≡ onward (length_at longest (drop k s) number at nibble) (place_on k)
   unfolding length_at
-  length-on longest number at nibble = rw (extended-on 4 longest at nibble) (after-length number (extended 4 longest (drop k s) at nibble))
+  length_on longest number at nibble = rw (extended_on 4 longest at nibble) (after_length number (extended 4 longest (drop k s) at nibble))
 
-  after-delta : (longest before nibble : ℕ) (a : Answer Value) → onward (onward a (value_on k)) (λ delta. length_at longest s (before + delta.value) delta.next nibble) ≡ onward (onward a (λ delta. length_at longest (drop k s) (before + delta.value) delta.next nibble)) (place_on k)
-  after-delta longest before nibble (given v) = length-on longest (before + v.value) v.next nibble
-  after-delta longest before nibble (refused j) = refl
+  after_delta : (longest before nibble : ℕ) (a : Answer Value) → onward (onward a (value_moved k)) (λ delta. length_at longest s (before + delta.value) delta.next nibble) ≡ onward (onward a (λ delta. length_at longest (drop k s) (before + delta.value) delta.next nibble)) (place_on k)
+  after_delta longest before nibble (given v) = length_on longest (before + v.value) v.next nibble
+  after_delta longest before nibble (refused j) = refl
 
-  option-on : (longest before at : ℕ) → option_at longest s before (k + at) ≡ onward (option_at longest (drop k s) before at) (place_on k)
+  option_on : (longest before at : ℕ) → option_at longest s before (k + at) ≡ onward (option_at longest (drop k s) before at) (place_on k)
   unfolding option_at
-  option-on longest before at =
-      rw (past at 1, byte at, extended-on 3 65535 (at + 1) (get_or (drop k s) at 0 / 16))
-      (after-delta longest before (get_or (drop k s) at 0 % 16) (extended 3 65535 (drop k s) (at + 1) (get_or (drop k s) at 0 / 16)))
+  option_on longest before at =
+      rw (past at 1, byte at, extended_on 3 65535 (at + 1) (get_or (drop k s) at 0 / 16))
+      (after_delta longest before (get_or (drop k s) at 0 % 16) (extended 3 65535 (drop k s) (at + 1) (get_or (drop k s) at 0 / 16)))
 
   ends_on : (at : ℕ) → leb (length s) (k + at) ≡ leb (length (drop k s)) at
   ends_on at =
@@ -83,17 +83,17 @@ module _ (s : List ℕ) (k : ℕ) (inside : k ≤ length s) where
   place_on_lem : (longest before at : ℕ) → place_at longest s before (k + at) ≡ onward (place_at longest (drop k s) before at) (place_on k)
   unfolding place_at
   place_on_lem longest before at =
-      rw (ends_on at, byte at, past at 1, option-on longest before at, whole) (sym (simp onward_pick))
+      rw (ends_on at, byte at, past at 1, option_on longest before at, whole) (sym (simp onward_pick))
 
-  alone-on : (payload : ℕ) → eqb (k + payload) (length s) ≡ eqb payload (length (drop k s))
-  alone-on payload =
+  alone_on : (payload : ℕ) → eqb (k + payload) (length s) ≡ eqb payload (length (drop k s))
+  alone_on payload =
       rw length-drop
       (by_eq (k + payload) (length s)
       (λ e. eq-eqb (k + payload) (length s) e ∙ sym (eq-eqb payload (length s - k) (omega arith)))
       (λ n. ne_eqb (k + payload) (length s) n ∙ sym (ne_eqb payload (length s - k) (λ e. n (omega arith)))))
 
   end_on : (marked : Bool) (payload : ℕ) → end_judged s (record { records = []; marked = marked; payload = k + payload }) ≡ end_judged (drop k s) (record { records = []; marked = marked; payload = payload })
-  end_on marked payload = rw (alone-on payload)
+  end_on marked payload = rw (alone_on payload)
 
   none_more : (a : Answer Place) → onward (on_place (onward a (place_on k)) (λ r. refused 6)) (end_judged s) ≡ onward (on_place a (λ r. refused 6)) (end_judged (drop k s))
   none_more (given (ended marked payload)) = end_on marked payload
@@ -111,7 +111,7 @@ module _ (s : List ℕ) (k : ℕ) (inside : k ≤ length s) where
   one_more room same (refused j) = refl
 
   -- So the judgement is that of the bytes from there on.
-  pub judged-on : (room number at : ℕ) → options_judged s room number (k + at) ≡ options_judged (drop k s) room number at
+  pub judged_on : (room number at : ℕ) → options_judged s room number (k + at) ≡ options_judged (drop k s) room number at
   unfolding options_judged options
-  judged-on zero number at = rw (place_on_lem 65804 number at) (none_more (place_at 65804 (drop k s) number at))
-  judged-on (suc room) number at = rw (place_on_lem 65804 number at) (one_more room (judged-on room) (place_at 65804 (drop k s) number at))
+  judged_on zero number at = rw (place_on_lem 65804 number at) (none_more (place_at 65804 (drop k s) number at))
+  judged_on (suc room) number at = rw (place_on_lem 65804 number at) (one_more room (judged_on room) (place_at 65804 (drop k s) number at))

@@ -1,6 +1,7 @@
 // A message as a datagram and as its frame over TCP (RFC 8323, section 3.2), each made of the other. Both hold token, options and
 // payload as the same bytes, which are copied once; what stands before them is made anew.
 #![tactic(auto)]
+
 ghost use Rattle.std.specs.Prelude.{◌≡◌, ◌++◌, eqb, ltb, length, ◌+◌, ◌≤◌, ◌<◌};
 ghost use Rattle.ground.specs.Choice.{both};
 ghost use Rattle.rfc.specs.Frame.{frame_head};

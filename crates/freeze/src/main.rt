@@ -4,6 +4,7 @@
 // The input is read twice, so it may be of any length; from a pipe it is first copied to /tmp, and the room there bounds it. A
 // line has at most 199,999 bytes, which is more than any datagram takes.
 #![tactic(auto)]
+
 mod asked;
 mod lines;
 

@@ -22,21 +22,21 @@ use Rattle.writing.specs.Writing.{writing, bytes_written}
 use Rattle.stream.specs.declared.Form.{Form}
 use Rattle.stream.specs.Stream.{Frozen, message_of}
 use Rattle.freezing.specs.Freezing.{Writes, strict_datagram, freezing, Freezes}
-use Rattle.freezing.proofs.Full.{full-written}
+use Rattle.freezing.proofs.Full.{full_written}
 
 module _ (form : Form) (m : Frozen) (old : List ℕ) (start : ℕ) where
   pub writes_nothing : length old < start + length (message_of form m) → Writes form m old start (Refused NoRoom) old
   writes_nothing h = let n = no_place old (message_of form m) start (length (message_of form m)) h in record { answer = n.0; output = n.1 }
 
-  pub writes-all : (size r : ℕ) (new : List ℕ) → length (message_of form m) ≡ size → start + size ≤ length old → Puts old start (message_of form m) r new → Writes form m old start (Length size) new
-  writes-all size r new e h p =
+  pub writes_all : (size r : ℕ) (new : List ℕ) → length (message_of form m) ≡ size → start + size ≤ length old → Puts old start (message_of form m) r new → Writes form m old start (Length size) new
+  writes_all size r new e h p =
       let n = puts_placed (length (message_of form m)) p (omega (arith, e)) in
       record { answer = ap given (sym e) ∙ n.0; output = n.1 }
 
 module _ (form : Form) (peer : List ℕ) (p : Packet) (s : Stores) (old : List ℕ) (start : ℕ) where
-  pub freezes-nothing : (r : Written) (k : ℕ) → refused k ≡ writing true (Given full_size) full_size s p → written r ≡ refused k → Freezes form peer p s old start r old
+  pub freezes_nothing : (r : Written) (k : ℕ) → refused k ≡ writing true (Given full_size) full_size s p → written r ≡ refused k → Freezes form peer p s old start r old
   unfolding freezing strict_datagram
-  freezes-nothing r k e h = record { answer = h ∙ rw (← e) refl; output = rw (← e) refl }
+  freezes_nothing r k e h = record { answer = h ∙ rw (← e) refl; output = rw (← e) refl }
 
   pub freezes : (n : ℕ) (r : Written) (new : List ℕ) → given n ≡ writing true (Given full_size) full_size s p → Writes form (record { peer = peer; datagram = bytes_written true s p }) old start r new → Freezes form peer p s old start r new
   unfolding freezing strict_datagram
@@ -47,6 +47,6 @@ pub front : (s : Stores) (p : Packet) (n : ℕ) (old new : List ℕ) → length 
     → take n new ≡ bytes_written true s p
 front s p n old new f e q =
     let d : List ℕ = bytes_written true s p in
-    let w = full-written s p n (sym e) in
+    let w = full_written s p n (sym e) in
     ap (take n) (q ∙ (ap (λ (a : Answer ℕ). after a 0 d old) (sym e) ∙ put_front old d (omega (arith, w.0, w.1))))
     ∙ take_at d (drop (length d) old) n (sym w.0)

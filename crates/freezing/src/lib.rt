@@ -1,5 +1,6 @@
 // Messages into a freeze stream: a peer, and the strict datagram of a packet.
 #![tactic(auto)]
+
 ghost use Rattle.std.specs.Prelude.{◌≡◌, ◌+◌, ◌≤◌, length, replicate, eqb};
 ghost use Rattle.ground.specs.Choice.{pick};
 ghost use Rattle.packet.specs.Limits.{full_size};

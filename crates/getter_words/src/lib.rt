@@ -1,5 +1,6 @@
 // What the getters answer of a packet, as words: content format, Observe, and the options of the numbers asked for.
 #![tactic(auto)]
+
 use decimal::put_decimal;
 use hexadecimal::put_hex;
 use lines::put_number;

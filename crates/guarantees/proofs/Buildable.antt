@@ -24,11 +24,11 @@ use Rattle.packet.specs.declared.Home.{Home}
 use Rattle.packet.specs.declared.Home.TheVariants.{Datagram, Edits}
 use Rattle.packet.specs.declared.OptionRecord.{OptionRecord}
 use Rattle.judging.specs.Judge.{lengths_of, length_in, is_too_long, bad_value, bad_values}
-use Rattle.judging.proofs.Good.{Good, good, value-length}
+use Rattle.judging.proofs.Good.{Good, good, value_length}
 use Rattle.judging.proofs.Ranges.{range_exactly}
 use Rattle.measuring.specs.Measuring.{sent_payload, strictly, limited, counted}
 use Rattle.measuring.specs.declared.Limit.TheVariants.{Unlimited}
-use Rattle.measuring.proofs.Sizes.{Fits, measured-fits}
+use Rattle.measuring.proofs.Sizes.{Fits, measured_fits}
 use Rattle.writing.specs.Writing.{sent, bytes_written, writing}
 use Rattle.writing.proofs.Options.{bytes_at_most}
 use Rattle.writing.proofs.Sizes.{message_length, written_length}
@@ -81,7 +81,7 @@ shorts : (s : Stores) (rs : List OptionRecord) → bad_values (lengths_of s) rs 
 shorts s [] e = tt
 shorts s (r ∷ rs) e =
     let both = neither (bad_value (lengths_of s) r) (bad_values (lengths_of s) rs) e in
-    (omega (arith, bytes_at_most (store_of s r.home) r.start r.len, value-length (lengths_of s) r both.0), shorts s rs both.1)
+    (omega (arith, bytes_at_most (store_of s r.home) r.start r.len, value_length (lengths_of s) r both.0), shorts s rs both.1)
 
 -- Of three things none of which is carried, the first and the last aren't.
 first_of : (a t k q : Bool) → both a (either t (either k q)) ≡ false → both a t ≡ false
@@ -134,7 +134,7 @@ module _ (s : Stores) (p : Packet) where
   -- Where writing is answered, the packet is good, strict mode has nothing to refuse, and there is room.
   module _ (strict : Bool) (old : List ℕ) (n : ℕ) (w : writing strict Unlimited (length old) s p ≡ given n) where
     fits : Fits strict (length old) (lengths_of s) p n
-    fits = measured-fits strict Unlimited (length old) (lengths_of s) p n (sym (writing_measured strict Unlimited (length old) s p) ∙ w)
+    fits = measured_fits strict Unlimited (length old) (lengths_of s) p n (sym (writing_measured strict Unlimited (length old) s p) ∙ w)
 
     sound : Good (lengths_of s) p
     sound = good (lengths_of s) p fits.good
@@ -190,9 +190,9 @@ module _ (s : Stores) (p : Packet) where
     abbrev final : List ℕ
     final = sets adds.1 adds.0.at last-bytes
 
-    ends-given : ending adds.0 (bytes_of s p.payload) (length adds.1) ≡ given (adds.0.at + length last-bytes)
+    ends_given : ending adds.0 (bytes_of s p.payload) (length adds.1) ≡ given (adds.0.at + length last-bytes)
     unfolding ending
-    ends-given =
+    ends_given =
         let short : length (bytes_of s p.payload) ≤ 70000 = omega (arith, range_exactly s p.payload sound.payload, sound.payload, store_short s p.payload.home fits.short) in
         let carries : both adds.0.empty (both adds.0.strict (ltb 0 (length (bytes_of s p.payload)))) ≡ false = rw (fill.empty, fill.strict) (no_payload sound strict passes) in
         let size : length last-bytes ≡ length (payload_layout (sent_by (empty_in strict p.header.code) (bytes_of s p.payload))) = ap (λ (b : Bool). length (payload_layout (sent_by b (bytes_of s p.payload)))) fill.empty in
@@ -209,7 +209,7 @@ module _ (s : Stores) (p : Packet) where
           last = adds.0;
           filled = adds.1;
           adds = adds.2;
-          ends = record { answer = sym ends-given; output = rw ends-given };
+          ends = record { answer = sym ends_given; output = rw ends_given };
         }
 
 -- The same run, by another name of its length and of what it leaves.

@@ -26,7 +26,7 @@ use Rattle.class.specs.declared.MessageClass.TheVariants.{Empty, Request, Respon
 use Rattle.header.specs.declared.Header.{Header}
 use Rattle.header.proofs.Raw.{type_small}
 use Rattle.placing.specs.Put.{Put}
-use Rattle.placing.proofs.Puts.{put-none, put_put, put_length}
+use Rattle.placing.proofs.Puts.{put_none, put_put, put_length}
 use Rattle.laying.specs.Laying.{head_layout}
 use Rattle.laying.proofs.Pieces.{layout_pieces}
 use Rattle.building.specs.Building.{built_of, Starts, Adds, Ends, empty_in, token_carried, strict_start, start_judged, begun, added, adding, sent_by, ending}
@@ -44,7 +44,7 @@ use Rattle.reading.specs.Reading.{FromBytes}
 use Rattle.reading.specs.declared.Decoded.{Decoded}
 use Rattle.measuring.specs.Measuring.{sent_payload}
 use Rattle.measuring.specs.declared.Limit.TheVariants.{Unlimited}
-use Rattle.measuring.proofs.Sizes.{measured-fits}
+use Rattle.measuring.proofs.Sizes.{measured_fits}
 use Rattle.writing.specs.Writing.{ToBytes, bytes_written, writing}
 use Rattle.writing.proofs.Sizes.{written_length}
 use Rattle.writing.proofs.Answers.{writing_measured}
@@ -124,7 +124,7 @@ pub record Filled (b : Builder) (old : List ℕ) (os : List Opt) (last : Builder
 
 pub filled : (os : List Opt) (b : Builder) (old : List ℕ) (last : Builder) (new : List ℕ) → AddsAll b old os last new → Filled b old os last new
 filled [] b old last new a =
-    rw (a.0, a.1) (record { strict = refl; empty = refl; rising = tt; count = omega arith; values = λ h. tt; bare = λ e. refl; put = put-none old b.at })
+    rw (a.0, a.1) (record { strict = refl; empty = refl; rising = tt; count = omega arith; values = λ h. tt; bare = λ e. refl; put = put_none old b.at })
 filled (o ∷ os) b old last new a =
     let t = took b o old a.0 a.1 a.2 in
     let f = filled os a.0 a.1 last new a.3 in
@@ -136,7 +136,7 @@ filled (o ∷ os) b old last new a =
       strict = f.strict ∙ ap (λ (x : Builder). x.strict) is;
       empty = f.empty ∙ ap (λ (x : Builder). x.empty) is;
       rising = (t.rises, subst (λ (n : ℕ). Rising n os) before f.rising);
-      count = omega (arith, f.count, ap (λ (x : Builder). x.left) is, left-some b.left t.room);
+      count = omega (arith, f.count, ap (λ (x : Builder). x.left) is, left_some b.left t.room);
       values = λ h. (omega (arith, h.0), t.short, h.1, f.values h.2);
       bare = λ e. absurd (let z : true ≡ false = sym e ∙ t.carries in not-true z);
       put =
@@ -145,8 +145,8 @@ filled (o ∷ os) b old last new a =
           (subst (λ (n : ℕ). Put a.1 n (options_layout c.before os) last.at new) at f.put));
     }
   where
-    left-some : (n : ℕ) → (n ≡ 0 → ⊥) → 1 ≤ n
-    left-some n h = omega (arith, h)
+    left_some : (n : ℕ) → (n ≡ 0 → ⊥) → 1 ≤ n
+    left_some n h = omega (arith, h)
 
     not-true : true ≡ false → ⊥
     not-true e = let z : ◌≡◌ {A = ℕ} 0 1 = cc in omega arith
@@ -248,34 +248,34 @@ carrying m payload =
     }
 
 module _ (strict : Bool) (parts : Parts) (old : List ℕ) (n : ℕ) (new : List ℕ) (run : Run strict parts old n new) (p : Packet) (s : Stores) (h : p.header ≡ parts.header) (e : meaning s p ≡ whole parts) where
-  same-payload : bytes_of s p.payload ≡ parts.payload
-  same-payload = ap (λ (m : Message). m.payload) e
+  same_payload : bytes_of s p.payload ≡ parts.payload
+  same_payload = ap (λ (m : Message). m.payload) e
 
   same_class : p.header.code ≡ parts.header.code
   same_class = ap (λ (x : Header). x.code) h
 
   same_sent : bytes_of s (sent_payload strict p.header.code p.payload) ≡ sent_by (empty_in strict parts.header.code) parts.payload
   same_sent =
-      sent_bytes strict p.header.code s p.payload (λ t z. same-payload ∙ no_payload strict parts old n new run t (sym (ap byte_of same_class) ∙ z))
+      sent_bytes strict p.header.code s p.payload (λ t z. same_payload ∙ no_payload strict parts old n new run t (sym (ap byte_of same_class) ∙ z))
       ∙ (ap (λ (c : MessageClass). sent_by (empty_in strict c) (bytes_of s p.payload)) same_class
-      ∙ ap (sent_by (empty_in strict parts.header.code)) same-payload)
+      ∙ ap (sent_by (empty_in strict parts.header.code)) same_payload)
 
   same_bytes : bytes_written strict s p ≡ layout (sent_whole strict parts)
   same_bytes =
       ap (λ (l : List ℕ). layout (carrying (meaning s p) l)) same_sent
       ∙ ap (λ (m : Message). layout (carrying m (sent_by (empty_in strict parts.header.code) parts.payload))) e
 
-  same-output : (r : Written) (also : List ℕ) → ToBytes strict Unlimited p s old r also → (k : ℕ) → r ≡ Length k → (k ≡ n) × (also ≡ new)
-  same-output r also promise k is =
+  same_output : (r : Written) (also : List ℕ) → ToBytes strict Unlimited p s old r also → (k : ℕ) → r ≡ Length k → (k ≡ n) × (also ≡ new)
+  same_output r also promise k is =
       let w : writing strict Unlimited (length old) s p ≡ given k = sym promise.answer ∙ ap written is in
-      let f = measured-fits strict Unlimited (length old) (lengths_of s) p k (sym (writing_measured strict Unlimited (length old) s p) ∙ w) in
+      let f = measured_fits strict Unlimited (length old) (lengths_of s) p k (sym (writing_measured strict Unlimited (length old) s p) ∙ w) in
       let size = written_length strict s p (good (lengths_of s) p f.good) in
       let put = all_put strict parts old n new run in
       let out : also ≡ sets old 0 (bytes_written strict s p) = rw w at promise.output in
       (omega (arith, f.size, size, ap length same_bytes, put.next), out ∙ (ap (sets old 0) same_bytes ∙ sym put.out))
 
 pub builds_as_writing : BuildsAsWriting
-builds_as_writing strict parts old n new run p s h e = (same_bytes strict parts old n new run p s h e, same-output strict parts old n new run p s h e)
+builds_as_writing strict parts old n new run p s h e = (same_bytes strict parts old n new run p s h e, same_output strict parts old n new run p s h e)
 
 -- What strict mode asked of header and token.
 record Asked (h : Header) (token : List ℕ) : Type 0 where
@@ -294,8 +294,8 @@ asked h token =
 
 module _ (parts : Parts) (typed : Typed parts) (old : List ℕ) (n : ℕ) (new : List ℕ) (run : Run true parts old n new) where
   -- Strict mode sends all the parts.
-  all-sent : sent_whole true parts ≡ whole parts
-  all-sent =
+  all_sent : sent_whole true parts ≡ whole parts
+  all_sent =
       ap (carrying (whole parts))
       (on_eq (λ (l : List ℕ). l ≡ parts.payload) (byte_of parts.header.code) 0 (λ z. sym (no_payload true parts old n new run refl z)) (λ z. refl))
 
@@ -323,18 +323,18 @@ module _ (parts : Parts) (typed : Typed parts) (old : List ℕ) (n : ℕ) (new :
             };
       }
 
-  laid-whole : Wrote (layout (whole parts)) old (Length n) new
-  laid-whole = subst (λ (m : Message). Wrote (layout m) old (Length n) new) all-sent (laid_out true parts old n new run)
+  laid_whole : Wrote (layout (whole parts)) old (Length n) new
+  laid_whole = subst (λ (m : Message). Wrote (layout m) old (Length n) new) all_sent (laid_out true parts old n new run)
 
   read_back : n ≤ max_store → (d : Decoded) → FromBytes true (take n new) d → (d.outcome ≡ Done) × ((edits : List ℕ) → meaning (stores (take n new) edits) d.packet ≡ whole parts)
   read_back short d read =
       let put = all_put true parts old n new run in
-      let same : n ≡ length (layout (whole parts)) = put.next ∙ (zero-add _ ∙ ap (λ (m : Message). length (layout m)) all-sent) in
-      let bytes : take n new ≡ layout (whole parts) = ap (λ (i : ℕ). take i new) same ∙ front (layout (whole parts)) old new laid-whole.output in
+      let same : n ≡ length (layout (whole parts)) = put.next ∙ (zero-add _ ∙ ap (λ (m : Message). length (layout m)) all_sent) in
+      let bytes : take n new ≡ layout (whole parts) = ap (λ (i : ℕ). take i new) same ∙ front (layout (whole parts)) old new laid_whole.output in
       found (take n new) (omega (arith, ap length bytes)) d read (whole parts) (record { well_formed = well_formed; bytes = sym bytes })
 
 pub builds_well_formed : BuildsWellFormed
-builds_well_formed parts typed old n new run = (well_formed parts typed old n new run, laid-whole parts typed old n new run)
+builds_well_formed parts typed old n new run = (well_formed parts typed old n new run, laid_whole parts typed old n new run)
 
 pub built_then_read : BuiltThenRead
 built_then_read = read_back

@@ -25,18 +25,18 @@ use Rattle.packet.specs.declared.Packet.{Packet}
 use Rattle.packet.specs.declared.OptionRecord.{OptionRecord}
 use Rattle.packet.specs.declared.Range.{Range}
 use Rattle.judging.specs.Judge.{lengths_of, options_size}
-use Rattle.judging.proofs.Good.{not-bad}
+use Rattle.judging.proofs.Good.{not_bad}
 use Rattle.measuring.specs.Measuring.{sent_payload, strictly, sized}
 use Rattle.measuring.specs.declared.Limit.{Limit}
-use Rattle.measuring.proofs.Sizes.{measured-good}
+use Rattle.measuring.proofs.Sizes.{measured_good}
 use Rattle.writing.specs.Writing.{sent, bytes_written, writing, ToBytes}
 use Rattle.writing.proofs.Answers.{writing_measured}
 use Rattle.typed_options.specs.Apart.{AllApart, Untouched}
 use Rattle.compacting.specs.Compacting.{live_bytes, values_length, relaid, relocated, compacting, packet_beside, Compacts}
 use Rattle.compacting.specs.declared.Compacted.{Compacted}
-use Rattle.compacting.proofs.Relaid.{relaid_size, relocated-records, relocated-again}
-use Rattle.compacting.proofs.Kept.{meaning-kept}
-use Rattle.compacting.proofs.Done.{Done, done, counted, short-then, good-then, again, live_then}
+use Rattle.compacting.proofs.Relaid.{relaid_size, relocated_records, relocated_again}
+use Rattle.compacting.proofs.Kept.{meaning_kept}
+use Rattle.compacting.proofs.Done.{Done, done, counted, short_then, good_then, again, live_then}
 use Rattle.guarantees.specs.Compaction.{GivesBack, Compaction, CompactionLeaves, CompactionKept, OneCompaction}
 use Rattle.guarantees.proofs.Homes.{frozen_stays}
 use Rattle.guarantees.proofs.Refusals.{output_kept}
@@ -86,11 +86,11 @@ module _ (p : Packet) (shaped : Shaped p) (s : Stores) (second : List ℕ) (r : 
       ∙ ap (λ (l : List ℕ). l ++ drop n e) (t ∙ (ap (take n) w.edits ∙ take_at (live_bytes s p) (drop n s.edits) n w.long))
 
   kept : (d e : List ℕ) → take n e ≡ take n edits → meaning (stores d e) r.packet ≡ meaning s p
-  kept d e t = ap (meaning (stores d e)) w.packet ∙ meaning-kept s p w.good used d e (drop n e) (begins e t)
+  kept d e t = ap (meaning (stores d e)) w.packet ∙ meaning_kept s p w.good used d e (drop n e) (begins e t)
 
   freed : (start len : ℕ) → n ≤ start → Untouched start len r.packet (records_of r.packet)
   freed start len f =
-      rw (w.packet, relocated-records p used)
+      rw (w.packet, relocated_records p used)
       (record {
         token = inl (omega (arith, w.fits.sum));
         options = relaid_apart start len p.token.len (records_of p) (omega (arith, w.fits.sum));
@@ -102,23 +102,23 @@ module _ (p : Packet) (shaped : Shaped p) (s : Stores) (second : List ℕ) (r : 
     then = stores d edits
 
     -- A second compaction.
-    second-time : (other : List ℕ) → n ≤ length other → (q : Compacted) (e b : List ℕ) → Compacts r.packet then other q e b
+    second_time : (other : List ℕ) → n ≤ length other → (q : Compacted) (e b : List ℕ) → Compacts r.packet then other q e b
         → (q ≡ r) × (e ≡ edits) × (b ≡ live_bytes s p ++ drop n other)
-    second-time other room q e b x =
+    second_time other room q e b x =
         let y : Compacts (relocated p) then other q e b = rw w.packet at x in
         let a : compacting (lengths_of then) (length other) (relocated p) ≡ given n = again p shaped.array s second r edits buffer n w d short (length other) room in
         let outcome : q.outcome ≡ r.outcome = one_written q.outcome (Length n) (y.answer ∙ a) ∙ sym h in
         let z = done (relocated p) then other q e b n y (outcome ∙ h) in
         let live = live_then p shaped.array s second r edits buffer n w d short in
-        let packet : q.packet ≡ r.packet = z.packet ∙ (relocated-again p used ∙ sym w.packet) in
+        let packet : q.packet ≡ r.packet = z.packet ∙ (relocated_again p used ∙ sym w.packet) in
         let rest : drop n edits ≡ drop n s.edits = ap (drop n) w.edits ∙ drop_at (live_bytes s p) (drop n s.edits) n w.long in
         (λ k. record { outcome = outcome k; packet = packet k }, z.edits ∙ ((λ k. live k ++ rest k) ∙ sym w.edits), z.buffer ∙ ap (λ (l : List ℕ). l ++ drop n other) live)
 
     -- What a writer answers: the sizes are those that they were.
-    same-sizes : (strict : Bool) (limit : Limit) (room : ℕ) → sized strict limit room (relocated p) ≡ sized strict limit room p
+    same_sizes : (strict : Bool) (limit : Limit) (room : ℕ) → sized strict limit room (relocated p) ≡ sized strict limit room p
     unfolding strictly
-    same-sizes strict limit room =
-        let o : options_size 0 (records_of (relocated p)) ≡ options_size 0 (records_of p) = ap (options_size 0) (relocated-records p used) ∙ relaid_size 0 p.token.len (records_of p) in
+    same_sizes strict limit room =
+        let o : options_size 0 (records_of (relocated p)) ≡ options_size 0 (records_of p) = ap (options_size 0) (relocated_records p used) ∙ relaid_size 0 p.token.len (records_of p) in
         let l : (sent_payload strict p.header.code (relocated p).payload).len ≡ (sent_payload strict p.header.code p.payload).len = sent_length strict p.header.code (relocated p).payload p.payload refl in
         rw (o, l) refl
 
@@ -126,13 +126,13 @@ module _ (p : Packet) (shaped : Shaped p) (s : Stores) (second : List ℕ) (r : 
     same_answer strict limit room =
         ap (writing strict limit room then) w.packet
         ∙ (writing_measured strict limit room then (relocated p)
-        ∙ (measured-good strict limit room (lengths_of then) (relocated p) (short-then p shaped.array s second r edits buffer n w d short) (not-bad (lengths_of then) (relocated p) (good-then p shaped.array s second r edits buffer n w d short))
-        ∙ (same-sizes strict limit room
-        ∙ sym (writing_measured strict limit room s p ∙ measured-good strict limit room (lengths_of s) p w.fits.short w.fits.sound))))
+        ∙ (measured_good strict limit room (lengths_of then) (relocated p) (short_then p shaped.array s second r edits buffer n w d short) (not_bad (lengths_of then) (relocated p) (good_then p shaped.array s second r edits buffer n w d short))
+        ∙ (same_sizes strict limit room
+        ∙ sym (writing_measured strict limit room s p ∙ measured_good strict limit room (lengths_of s) p w.fits.short w.fits.sound))))
 
-    same-written : (strict : Bool) (limit : Limit) (old : List ℕ) (x v : Written) (new other : List ℕ) → ToBytes strict limit p s old x new
+    same_written : (strict : Bool) (limit : Limit) (old : List ℕ) (x v : Written) (new other : List ℕ) → ToBytes strict limit p s old x new
         → ToBytes strict limit r.packet then old v other → (x ≡ v) × (new ≡ other)
-    same-written strict limit old x v new other a b =
+    same_written strict limit old x v new other a b =
         let answer = same_answer strict limit (length old) in
         let bytes = same_bytes strict s then p r.packet (ap (λ (q : Packet). q.header) w.packet) (kept d edits refl) in
         (one_written x v (a.answer ∙ sym (b.answer ∙ answer)), a.output ∙ sym (b.output ∙ (λ k. after (answer k) 0 (bytes k) old)))
@@ -145,8 +145,8 @@ module _ (p : Packet) (shaped : Shaped p) (s : Stores) (second : List ℕ) (r : 
         buffer_bytes = w.buffer;
         means = kept;
         freed = freed;
-        again = second-time;
-        writes = same-written;
+        again = second_time;
+        writes = same_written;
       }
 
 pub compaction : Compaction

@@ -4,7 +4,7 @@ use mathlib.Core.Path.{◌≡◌, refl, ap, ◌∙◌}
 use Rattle.packet.specs.Packet.{chosen}
 use Rattle.packet.specs.declared.Home.{Home}
 use Rattle.packet.specs.declared.Home.TheVariants.{Datagram, Edits}
-use Rattle.typed_options.proofs.Stays.{range-stays}
+use Rattle.typed_options.proofs.Stays.{range_stays}
 use Rattle.guarantees.specs.Homes.{PartOfItsHome, FrozenStays, SetterLeaves}
 
 piece : (h : Home) (d e : ℕ × ℕ) → (chosen h d e).0 ≡ chosen h d.0 e.0
@@ -18,4 +18,4 @@ pub frozen_stays : FrozenStays
 frozen_stays datagram old new r e = rw e refl
 
 pub setter_leaves : SetterLeaves
-setter_leaves datagram old new p a start bytes e promise r h = range-stays p a start bytes old e new promise datagram r h
+setter_leaves datagram old new p a start bytes e promise r h = range_stays p a start bytes old e new promise datagram r h

@@ -11,7 +11,7 @@ use Rattle.ground.specs.Choice.{pick}
 use Rattle.ground.specs.Part.{Bytes}
 use Rattle.ground.proofs.Choice.{by_lt}
 use Rattle.rfc.specs.Message.{Message, WellFormed, layout, header_layout, option_layout, nibble_of, extension_of}
-use Rattle.rfc.proofs.Message.{nibble-two, extension-two}
+use Rattle.rfc.proofs.Message.{nibble_two, extension_two}
 use Rattle.refusal.specs.Answer.{Answer, given, refused}
 use Rattle.refusal.proofs.Answers.{on_given}
 use Rattle.packet.specs.Packet.{stores}
@@ -54,7 +54,7 @@ module _ (v : List ℕ) (b : Bytes v) where
   laid : 269 ≤ length v → layout (holding v) ≡ datagram ((length v - 269) / 256) ((length v - 269) % 256) v
   unfolding layout header_layout option_layout nibble_of extension_of
   laid h =
-      rw (nibble-two (length v) h, extension-two (length v) h)
+      rw (nibble_two (length v) h, extension_two (length v) h)
       (ap (datagram ((length v - 269) / 256) ((length v - 269) % 256)) (append-nil (v ++ []) ∙ append-nil v))
 
   -- Strict reads it, and plain where the value is within 65535.

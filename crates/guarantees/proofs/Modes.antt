@@ -87,8 +87,8 @@ module _ (s edits : List ℕ) (b : Bytes s) (mode : Bool) (d : Decoded) (promise
 
 module _ (s edits : List ℕ) (b : Bytes s) (plain strict : Decoded) (p : FromBytes false s plain) (q : FromBytes true s strict) where
   -- A datagram that is longer than the layout has the bare marker.
-  longer-bare : Accepts plain → length (layout (said s edits plain)) < length s → BareMarker s (said s edits plain)
-  longer-bare h longer = ⊎_elim (λ same. absurd (omega (arith, ap length same))) (λ e. e) (read s edits b false plain p h).ends
+  longer_bare : Accepts plain → length (layout (said s edits plain)) < length s → BareMarker s (said s edits plain)
+  longer_bare h longer = ⊎_elim (λ same. absurd (omega (arith, ap length same))) (λ e. e) (read s edits b false plain p h).ends
 
   cause : Accepts plain → Refuses strict → Cause s (said s edits plain)
   cause h r =
@@ -98,7 +98,7 @@ module _ (s edits : List ℕ) (b : Bytes s) (plain strict : Decoded) (p : FromBy
       on P (not (eqb m.version 1)) (λ e _. inl (eqb-false m.version 1 (not-true (eqb m.version 1) e)))
       (λ _. on P carried
       (λ e _. let c = both_true (eqb m.code 0) (ltb 4 (length s)) e in inr (inl (eqb-true m.code 0 c.0, ltb-true 4 (length s) c.1)))
-      (λ _. rw (read s edits b false plain p h).fine (on_lt P (length (layout m)) (length s) (λ longer _. inr (inr (longer-bare h longer)))
+      (λ _. rw (read s edits b false plain p h).fine (on_lt P (length (layout m)) (length s) (λ longer _. inr (inr (longer_bare h longer)))
       (λ _ e. absurd (never strict (gives strict plain.packet e).0 r.0 r.1)))))
       (answers s edits b false plain p h true strict q)
 
@@ -109,15 +109,15 @@ module _ (s edits : List ℕ) (b : Bytes s) (plain strict : Decoded) (p : FromBy
       (λ _ e. absurd (never plain (gives plain strict.packet e).0 r.0 r.1)) (λ e _. some_long os e) (answers s edits b true strict q h false plain p)
 
   -- Both modes read one packet.
-  one-packet : Accepts plain → Accepts strict → plain.packet ≡ strict.packet
-  one-packet h k =
+  one_packet : Accepts plain → Accepts strict → plain.packet ≡ strict.packet
+  one_packet h k =
       one_of (values_within max_plain_value (said s edits strict).options) plain.packet strict.packet 4
       (sym (done plain (reading false s) p h) ∙ (read s edits b true strict q k).answers false)
 
   modes : Modes s edits plain strict
   modes =
       record {
-        both = λ h k. ap (meaning (stores s edits)) (one-packet h k);
+        both = λ h k. ap (meaning (stores s edits)) (one_packet h k);
         strict_alone = too_long;
         long_value = λ h o among long. refuses s edits b true strict q h false plain p (4 ∷ []) (rw (long_found (said s edits strict).options o among long) tt);
         plain_alone = cause;

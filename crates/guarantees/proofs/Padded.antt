@@ -11,7 +11,7 @@ use Rattle.ground.proofs.Choice.{on}
 use Rattle.rfc.specs.Uint.{number}
 use Rattle.refusal.specs.Answer.{Answer, given, refused, onward, written}
 use Rattle.option_value.specs.Uint.{leading_zeros, padded, read_uint}
-use Rattle.option_value.proofs.Padding.{one-pads, pads-length}
+use Rattle.option_value.proofs.Padding.{one_pads, pads_length}
 use Rattle.option_value.proofs.Uints.{read_pads, pads_read, output_then_read}
 use Rattle.option_value.proofs.Distinct.{one_uint, one_u8, one_u16, one_u32, one_u64}
 use Rattle.block_value.proofs.PlainLaws.{plain_pads}
@@ -41,10 +41,10 @@ four_widths =
     }
 
 pub one_count : OneCount
-one_count width bs p q h k = one-pads h k
+one_count width bs p q h k = one_pads h k
 
 pub length_counted : LengthCounted
-length_counted width bs p h = pads-length h
+length_counted width bs p h = pads_length h
 
 pub none_written : NoneWritten
 none_written width n old r new len a w h answer out is promise =

@@ -7,7 +7,7 @@ use Rattle.refusal.specs.Answer.{Answer, given, refused, outcome, written, Besid
 use Rattle.refusal.specs.Number.{number_of}
 use Rattle.refusal.specs.declared.Outcome.{Outcome}
 use Rattle.refusal.specs.declared.Outcome.TheVariants.{Done, Refused as Not}
-use Rattle.refusal.proofs.Answers.{not_refused, old-beside}
+use Rattle.refusal.proofs.Answers.{not_refused, old_beside}
 use Rattle.refusal.proofs.Distinct.{number_listed, numbers_are}
 use Rattle.guarantees.specs.Refusals.{Numbered, OutputKept, DoneOr}
 
@@ -21,7 +21,7 @@ output_kept (refused k) at bytes old r new w s e is = s
 -- An outcome with a value beside it.
 pub besides : {A : Type 0} (o : Outcome) (v old : A) (a : Answer A) → ◌≡◌ {A = Beside A} (record { answer = outcome o; value = v }) (beside old a) → DoneOr o v old
 besides Done v old a e = inl refl
-besides (Not k) v old a e = inr (k, refl, old-beside old a (record { answer = outcome (Not k); value = v }) e (number_of k) refl)
+besides (Not k) v old a e = inr (k, refl, old_beside old a (record { answer = outcome (Not k); value = v }) e (number_of k) refl)
 
 -- What follows a refusal, whatever the value would have been.
 pub kept_by : {A : Type 0} (a : Answer A) (at : ℕ) (bytes old new : List ℕ) (k : ℕ) → a ≡ refused k → new ≡ after a at bytes old → new ≡ old

@@ -11,24 +11,24 @@ use Rattle.reading.specs.Reading.{reading}
 use Rattle.reading.specs.Headed.{headed}
 use Rattle.cursor.specs.Cursor.{record_of}
 use Rattle.cursor.proofs.Distinct.{one_start, one_step}
-use Rattle.cursor.proofs.Passing.{step-passes, steps_few}
-use Rattle.cursor.proofs.Stepping.{reading-is-stepping, reading-is-steps, reading-unstarted, starts_with}
+use Rattle.cursor.proofs.Passing.{step_passes, steps_few}
+use Rattle.cursor.proofs.Stepping.{reading_is_stepping, reading_is_steps, reading_unstarted, starts_with}
 use Rattle.guarantees.specs.Stepping.{ReadsByStepping, AnyLoopReads, UnstartedIsRefused, StepsFall, StepsAreFew, StartsWith128, JudgesAsReading, ToldApart}
 
 pub reads_by_stepping : ReadsByStepping
 reads_by_stepping strict s b d q zero h = absurd (omega arith)
-reads_by_stepping strict s b d q (suc steps) h = q ∙ ap (beside new_packet) (reading-is-stepping strict s b steps (omega arith))
+reads_by_stepping strict s b d q (suc steps) h = q ∙ ap (beside new_packet) (reading_is_stepping strict s b steps (omega arith))
 
 pub any_loop_reads : AnyLoopReads
 any_loop_reads strict s b d q raw cursor t rs a run =
-    q ∙ ap (beside new_packet) (reading-is-steps strict s b (record { raw = raw; cursor = cursor }) (sym t) rs a run)
+    q ∙ ap (beside new_packet) (reading_is_steps strict s b (record { raw = raw; cursor = cursor }) (sym t) rs a run)
 
 pub unstarted_is_refused : UnstartedIsRefused
 unstarted_is_refused strict s b d q e t =
-    one_outcome _ _ (ap (λ (x : Beside Packet). x.answer) (q ∙ ap (beside new_packet) (reading-unstarted strict s b (number_of e) (sym t))))
+    one_outcome _ _ (ap (λ (x : Beside Packet). x.answer) (q ∙ ap (beside new_packet) (reading_unstarted strict s b (number_of e) (sym t))))
 
 pub steps_fall : StepsFall
-steps_fall s c number value next t = step-passes s c (record_of number value) next (sym t)
+steps_fall s c number value next t = step_passes s c (record_of number value) next (sym t)
 
 pub steps_are_few : StepsAreFew
 steps_are_few s c rs a run = steps_few run

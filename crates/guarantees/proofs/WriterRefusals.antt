@@ -40,9 +40,9 @@ common true = (tt, tt, tt, tt)
 common false = (tt, tt, tt, tt)
 
 module _ (strict : Bool) (limit : Limit) (room : ℕ) (s : Stores) (p : Packet) where
-  size-asks : Among strict (limited limit (counted strict p) (fitted room (bytes_written strict s p)))
+  size_asks : Among strict (limited limit (counted strict p) (fitted room (bytes_written strict s p)))
   unfolding limited
-  size-asks =
+  size_asks =
       on (Among strict) (over limit (counted strict p)) (λ o. (common strict).2)
       (λ o. on_lt (Among strict) room (length (bytes_written strict s p)) (λ r. (common strict).3) (λ r. tt))
 
@@ -51,7 +51,7 @@ module _ (strict : Bool) (limit : Limit) (room : ℕ) (s : Stores) (p : Packet) 
   among =
       on (Among strict) (is_too_long (lengths_of s)) (λ h. (common strict).0)
       (λ h. on (Among strict) (bad_packet (lengths_of s) p) (λ b. (common strict).1)
-      (λ b. refusing_onward _ (strictly strict p) _ (strict_asks strict p) (λ _. size-asks)))
+      (λ b. refusing_onward _ (strictly strict p) _ (strict_asks strict p) (λ _. size_asks)))
 
 pub writer_refusals : WriterRefusals
 writer_refusals strict limit p s old r new promise e is =
@@ -65,27 +65,27 @@ module _ (strict : Bool) (limit : Limit) (room : ℕ) (s : Stores) (p : Packet) 
   abbrev Other : {A : Type 0} → Answer A → Type 0
   Other a = Refusing Neither a
 
-  strict-other : Other (strictly strict p)
+  strict_other : Other (strictly strict p)
   unfolding strictly
-  strict-other =
+  strict_other =
       on Other (both strict (not (eqb p.header.version 1))) (λ v. (λ e. omega (arith, e), λ e. omega (arith, e)))
       (λ v. on Other (both strict (ltb 8 p.token.len)) (λ t. (λ e. omega (arith, e), λ e. omega (arith, e)))
       (λ t. on Other (both strict (empty_carries p)) (λ c. (λ e. omega (arith, e), λ e. omega (arith, e))) (λ c. tt)))
 
-  size-other : Other (limited limit (counted strict p) (fitted room (bytes_written strict s p)))
+  size_other : Other (limited limit (counted strict p) (fitted room (bytes_written strict s p)))
   unfolding limited
-  size-other =
+  size_other =
       on Other (over limit (counted strict p)) (λ o. (λ e. omega (arith, e), λ e. omega (arith, e)))
       (λ o. on_lt Other room (length (bytes_written strict s p)) (λ r. (λ e. omega (arith, e), λ e. omega (arith, e))) (λ r. tt))
 
   other : Other after
-  other = refusing_onward Neither (strictly strict p) _ strict-other (λ _. size-other)
+  other = refusing_onward Neither (strictly strict p) _ strict_other (λ _. size_other)
 
   -- A writer's answer, and that it is neither.
   module _ (r : Written) (answer : written r ≡ writing strict limit room s p) where
-    sound-then : Sound s p → (e : Refusal) → r ≡ Refused e → Neither (number_of e)
+    sound_then : Sound s p → (e : Refusal) → r ≡ Refused e → Neither (number_of e)
     unfolding writing
-    sound-then k e is =
+    sound_then k e is =
         let rest : written r ≡ after = answer ∙ rw (k.short, k.records) refl in
         on_refused Neither after (number_of e) other (sym rest ∙ ap written is)
 
@@ -104,11 +104,11 @@ module _ (strict : Bool) (limit : Limit) (room : ℕ) (s : Stores) (p : Packet) 
       short true long = absurd ((not_so r refl 10 (answer ∙ rw long refl)).0 refl)
       short false h = h
 
-      then-sound : Sound s p
-      then-sound =
+      then_sound : Sound s p
+      then_sound =
           let fits = short (is_too_long (lengths_of s)) refl in
           record { short = fits; records = good (bad_packet (lengths_of s) p) refl fits }
 
 pub sound_exactly : SoundExactly
 sound_exactly strict limit p s old r new promise =
-    (sound-then strict limit (length old) s p r promise.answer, then-sound strict limit (length old) s p r promise.answer)
+    (sound_then strict limit (length old) s p r promise.answer, then_sound strict limit (length old) s p r promise.answer)

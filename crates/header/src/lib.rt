@@ -1,5 +1,6 @@
 // The message header: the four bytes on the wire, and its fields.
 #![tactic(auto)]
+
 ghost use Rattle.std.specs.Prelude.{◌≡◌, length};
 ghost use Rattle.refusal.specs.Answer.{written, fitted, after, beside};
 ghost use Rattle.header.specs.Header.{number_of_type, type_of, new_raw, version_of, token_of, raw_bytes, raw_in, raw_read, new_header, header_of, raw_of, with_version, with_type, with_class, with_id, with_code, setting_of, code_output};

@@ -1,5 +1,6 @@
 // Requests on headers, their codes and classes, and message types.
 #![tactic(auto)]
+
 mod classes;
 mod headers;
 

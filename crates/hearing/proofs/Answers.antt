@@ -21,47 +21,47 @@ use Rattle.hearing.proofs.Written.{entry_size}
 
 module _ (before : ℕ) (s : List ℕ) (m : Arrival) where
   -- A table has 64 places.
-  pub sixty-four : length (places s) ≡ 64
+  pub sixty_four : length (places s) ≡ 64
   unfolding places_from
-  sixty-four = refl
+  sixty_four = refl
 
   -- From an answer, and what is left by it, to the promise.
   settled : (r : Heard) (left : List ℕ) → hearing before s m ≡ heard_of r → left ≡ leaving (heard_of r) m s → Hears before m s r left
   settled r left e h = record { answer = sym e; table = rw e h }
 
-  pub is-back : m.time < before → Hears before m s (Refused ClockBack) s
+  pub is_back : m.time < before → Hears before m s (Refused ClockBack) s
   unfolding hearing
-  is-back h = settled (Refused ClockBack) s (rw (lt-ltb m.time before h)) refl
+  is_back h = settled (Refused ClockBack) s (rw (lt-ltb m.time before h)) refl
 
   module _ (h : before ≤ m.time) where
-    pub is-short : length s < 1600 → Hears before m s (Refused NoRoom) s
+    pub is_short : length s < 1600 → Hears before m s (Refused NoRoom) s
     unfolding hearing
-    is-short l = settled (Refused NoRoom) s (rw (le-ltb m.time before h, lt-ltb (length s) 1600 l)) refl
+    is_short l = settled (Refused NoRoom) s (rw (le-ltb m.time before h, lt-ltb (length s) 1600 l)) refl
 
     module _ (l : 1600 ≤ length s) where
       judged : hearing before s m ≡ judging (places s) m
       unfolding hearing
       judged = rw (le-ltb m.time before h, le-ltb (length s) 1600 l)
 
-      pub is-passed : 1 < m.type → Hears before m s (Is Passed) s
+      pub is_passed : 1 < m.type → Hears before m s (Is Passed) s
       unfolding judging
-      is-passed k = settled (Is Passed) s (judged ∙ rw (lt-ltb 1 m.type k)) refl
+      is_passed k = settled (Is Passed) s (judged ∙ rw (lt-ltb 1 m.type k)) refl
 
       module _ (k : m.type ≤ 1) where
-        pub is-duplicate : stands m (entries (places s)) ≡ true → Hears before m s (Is Duplicate) s
+        pub is_duplicate : stands m (entries (places s)) ≡ true → Hears before m s (Is Duplicate) s
         unfolding judging
-        is-duplicate e = settled (Is Duplicate) s (judged ∙ rw (le-ltb 1 m.type k, e)) refl
+        is_duplicate e = settled (Is Duplicate) s (judged ∙ rw (le-ltb 1 m.type k, e)) refl
 
         module _ (e : stands m (entries (places s)) ≡ false) (at : ℕ) (i : at ≡ lowest m.time (places s) * 25) where
-          pub is-full : at ≡ 1600 → Hears before m s (Refused NoRoom) s
+          pub is_full : at ≡ 1600 → Hears before m s (Refused NoRoom) s
           unfolding judging
-          is-full f =
-              let none = le-ltb (lowest m.time (places s)) (length (places s)) (omega (arith, sixty-four)) in
+          is_full f =
+              let none = le-ltb (lowest m.time (places s)) (length (places s)) (omega (arith, sixty_four)) in
               settled (Refused NoRoom) s (judged ∙ rw (le-ltb 1 m.type k, e, none)) refl
 
           pub is_new : at ≤ 1600 → (at ≡ 1600 → ⊥) → length m.peer ≡ 18 → (r : ℕ) (left : List ℕ) → Puts s at (entry_bytes m) r left → Hears before m s (Is New) left
           unfolding judging
           is_new o f p r left w =
-              let some = lt-ltb (lowest m.time (places s)) (length (places s)) (omega (arith, sixty-four)) in
+              let some = lt-ltb (lowest m.time (places s)) (length (places s)) (omega (arith, sixty_four)) in
               let put = (puts_whole w (omega (arith, entry_size m p))).out in
               settled (Is New) left (judged ∙ rw (le-ltb 1 m.type k, e, some)) (put ∙ ap (λ (n : ℕ). sets s n (entry_bytes m)) i)

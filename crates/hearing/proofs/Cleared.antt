@@ -16,14 +16,14 @@ use Rattle.placing.specs.Put.{Puts}
 use Rattle.placing.proofs.Puts.{puts_whole}
 use Rattle.hearing.specs.Hearing.{Clears}
 use Rattle.hearing.specs.Told.{Holds}
-use Rattle.hearing.proofs.Places.{not-used}
+use Rattle.hearing.proofs.Places.{not_used}
 
 -- Places of bytes that are 0 are unused, and have no entry.
 zero_places : (n : ℕ) (s : List ℕ) (p : ℕ) → ((i : ℕ) → i < p + n * 25 → get_or s i 0 ≡ 0) → entries (places_from n s p) ≡ []
 unfolding places_from
 zero_places zero s p z = refl
 zero_places (suc n) s p z =
-    rw (not-used s p (λ e. omega (arith, z p (omega arith))) (λ e. omega (arith, z p (omega arith))))
+    rw (not_used s p (λ e. omega (arith, z p (omega arith))) (λ e. omega (arith, z p (omega arith))))
     (zero_places n s (p + 25) (λ i h. z i (omega arith)))
 
 zeros_first : (s : List ℕ) (n : ℕ) → n ≤ length s → (i : ℕ) → i < n → get_or (sets s 0 (replicate n 0)) i 0 ≡ 0

@@ -18,8 +18,8 @@ pub record Compared (s : List ℕ) (at : ℕ) (bytes : List ℕ) (i : ℕ) : Typ
   pub is : alike (part s (at + i) (length bytes - i)) (drop i bytes) ≡ alike (part s at (length bytes)) bytes
 
 module _ (s : List ℕ) (at : ℕ) (bytes : List ℕ) where
-  pub compare-begin : Compared s at bytes 0
-  compare-begin =
+  pub compare_begin : Compared s at bytes 0
+  compare_begin =
       let a : at + 0 ≡ at = omega arith in
       let b : length bytes - 0 ≡ length bytes = omega arith in
       record { is = rw (a, b) }
@@ -33,18 +33,18 @@ module _ (s : List ℕ) (at : ℕ) (bytes : List ℕ) where
         let j : at + (i + 1) ≡ suc (at + i) = omega arith in
         rw (n, drop-cons bytes i 0 h, drop-cons s (at + i) 0 (omega arith), j, add-one i)
 
-    pub compare-other : i < length bytes → at + length bytes ≤ length s → (get_or s (at + i) 0 ≡ get_or bytes i 0 → ⊥) → false ≡ alike (part s at (length bytes)) bytes
-    compare-other h l f =
+    pub compare_other : i < length bytes → at + length bytes ≤ length s → (get_or s (at + i) 0 ≡ get_or bytes i 0 → ⊥) → false ≡ alike (part s at (length bytes)) bytes
+    compare_other h l f =
         let g = rw (ne_eqb (get_or s (at + i) 0) (get_or bytes i 0) f) at (step h l) in
         sym g ∙ w.is
 
-    pub compare-turn : i < length bytes → at + length bytes ≤ length s → get_or s (at + i) 0 ≡ get_or bytes i 0 → Compared s at bytes (i + 1)
-    compare-turn h l f =
+    pub compare_turn : i < length bytes → at + length bytes ≤ length s → get_or s (at + i) 0 ≡ get_or bytes i 0 → Compared s at bytes (i + 1)
+    compare_turn h l f =
         let g = rw (eq-eqb (get_or s (at + i) 0) (get_or bytes i 0) f) at (step h l) in
         record { is = sym g ∙ w.is }
 
-    pub compare-end : length bytes ≤ i → true ≡ alike (part s at (length bytes)) bytes
-    compare-end h =
+    pub compare_end : length bytes ≤ i → true ≡ alike (part s at (length bytes)) bytes
+    compare_end h =
         let n : length bytes - i ≡ 0 = omega arith in
         let d : drop i bytes ≡ [] = drop_of_length-le bytes h in
         rw (n, d) at w.is

@@ -22,14 +22,14 @@ module _ (room before : ℕ) (m : Arrival) (s : List ℕ) where
   settled : (r : Heard) (left : List ℕ) → calling room before s m ≡ heard_of r → left ≡ leaving (heard_of r) m s → Called room before m s r left
   settled r left e h = record { answer = sym e; table = rw e h }
 
-  pub called-back : m.time < before → Called room before m s (Refused ClockBack) s
-  called-back h = settled (Refused ClockBack) s (back_first room before s m h) refl
+  pub called_back : m.time < before → Called room before m s (Refused ClockBack) s
+  called_back h = settled (Refused ClockBack) s (back_first room before s m h) refl
 
-  pub called-full : room ≡ 0 → before ≤ m.time → Called room before m s (Refused NoRoom) s
-  called-full z h = settled (Refused NoRoom) s (without_room room before s m z h) refl
+  pub called_full : room ≡ 0 → before ≤ m.time → Called room before m s (Refused NoRoom) s
+  called_full z h = settled (Refused NoRoom) s (without_room room before s m z h) refl
 
-  pub called-heard : (room ≡ 0 → ⊥) → (r : Heard) (left : List ℕ) → Hears before m s r left → Called room before m s r left
-  called-heard z r left h =
+  pub called_heard : (room ≡ 0 → ⊥) → (r : Heard) (left : List ℕ) → Hears before m s r left → Called room before m s r left
+  called_heard z r left h =
       let same = with_room room before s m (by_lt 0 room (λ (k : 0 < room). k) (λ k. absurd (z (omega arith)))) in
       record { answer = rw same h.answer; table = rw same h.table }
 
@@ -82,8 +82,8 @@ module _ (c : Calls) (old table listing : List ℕ) (before count : ℕ) (left :
     one_left a i = rw i at (rw e at g.whole)
 
     -- A call's table has the length of the one before.
-    pub next-length : length next ≡ length table
-    next-length = ap length h.table ∙ length_left (calling (length listing - count) before table m) m table
+    pub next_length : length next ≡ length table
+    next_length = ap length h.table ∙ length_left (calling (length listing - count) before table m) m table
 
     -- The next message is refused.
     pub stop : (k : ℕ) → heard_of r ≡ refused k → Ran c old (refused k) count next listing
@@ -93,8 +93,8 @@ module _ (c : Calls) (old table listing : List ℕ) (before count : ℕ) (left :
 
     -- It isn't: there is a place for its byte, and with that put the loop goes on.
     module _ (v : Verdict) (i : heard_of r ≡ given v) where
-      pub some-place : count < length listing
-      some-place = omega (arith, (listed (length listing - count) before table m v (sym h.answer ∙ i)).some)
+      pub some_place : count < length listing
+      some_place = omega (arith, (listed (length listing - count) before table m v (sym h.answer ∙ i)).some)
 
       pub turn : (byte : ℕ) → byte ≡ letter v → Going c old next (set listing count byte) m.time (count + 1) ms
       turn byte b =
@@ -110,5 +110,5 @@ module _ (c : Calls) (old table listing : List ℕ) (before count : ℕ) (left :
             written =
                 ap (λ (x : List ℕ). set x count (letter v)) g.written
                 ∙ sym (sets_append old 0 g.acc (letter v ∷ []) ∙ ap (λ (j : ℕ). set (sets old 0 g.acc) j (letter v)) (omega (arith, g.counted)));
-            room = omega (arith, some-place, same_size);
+            room = omega (arith, some_place, same_size);
           })

@@ -14,8 +14,8 @@ use Rattle.refusal.proofs.Answers.{not_refused}
 use Rattle.hearing.specs.Table.{Place, unused, holds, entries, free, lowest, judging}
 use Rattle.hearing.specs.Bytes.{places, entry_bytes}
 use Rattle.hearing.specs.Hearing.{Fits, hearing, leaving}
-use Rattle.hearing.proofs.Answers.{sixty-four}
-use Rattle.hearing.proofs.Written.{Entry, entry_length, places-written}
+use Rattle.hearing.proofs.Answers.{sixty_four}
+use Rattle.hearing.proofs.Written.{Entry, entry_length, places_written}
 
 -- A new one is of a type that is remembered, and the table has a free place for it.
 pub record Taken (s : List ℕ) (m : Arrival) : Type 0 where
@@ -42,21 +42,21 @@ module _ (before : ℕ) (s : List ℕ) (m : Arrival) where
     entry = record { time = f.time; type = (taken e).type; peer = f.peer; id = f.id }
 
     -- The places with the new one among them.
-    pub places-left : places (leaving (given new) m s) ≡ set (places s) (lowest m.time (places s)) (holds m)
-    places-left =
-        places-written m entry 64 (lowest m.time (places s)) s (lowest m.time (places s) * 25) 0
-        (omega (arith, (taken e).room, sixty-four before s m)) (omega arith) (omega (arith, (taken e).size))
+    pub places_left : places (leaving (given new) m s) ≡ set (places s) (lowest m.time (places s)) (holds m)
+    places_left =
+        places_written m entry 64 (lowest m.time (places s)) s (lowest m.time (places s) * 25) 0
+        (omega (arith, (taken e).room, sixty_four before s m)) (omega arith) (omega (arith, (taken e).size))
 
-    new-behind : drop 1600 (leaving (given new) m s) ≡ drop 1600 s
-    new-behind =
+    new_behind : drop 1600 (leaving (given new) m s) ≡ drop 1600 s
+    new_behind =
         part_after (entry_bytes m) s (lowest m.time (places s) * 25) 1600
-        (omega (arith, (taken e).room, sixty-four before s m, entry_length m entry))
+        (omega (arith, (taken e).room, sixty_four before s m, entry_length m entry))
 
   -- Bytes after the table stay.
-  pub behind-left : Fits m → (v : Verdict) → hearing before s m ≡ given v → drop 1600 (leaving (given v) m s) ≡ drop 1600 s
-  behind-left f new e = new-behind f e
-  behind-left f duplicate e = refl
-  behind-left f passed e = refl
+  pub behind_left : Fits m → (v : Verdict) → hearing before s m ≡ given v → drop 1600 (leaving (given v) m s) ≡ drop 1600 s
+  behind_left f new e = new_behind f e
+  behind_left f duplicate e = refl
+  behind_left f passed e = refl
 
 -- The lowest free place is free, and none below it is.
 pub lowest_free : (now : ℕ) (qs : List Place) → lowest now qs < length qs → free now (get_or qs (lowest now qs) unused) ≡ true

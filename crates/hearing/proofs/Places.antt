@@ -40,71 +40,71 @@ module _ (s : List ℕ) (at : ℕ) where
   unfolding place_at
   confirmable e = rw (eq-eqb (get_or s at 0) 1 e)
 
-  non-confirmable : get_or s at 0 ≡ 2 → place_at s at ≡ holds (entry_at 1 s at)
+  non_confirmable : get_or s at 0 ≡ 2 → place_at s at ≡ holds (entry_at 1 s at)
   unfolding place_at
-  non-confirmable e = rw (ne_eqb (get_or s at 0) 1 (omega arith), eq-eqb (get_or s at 0) 2 e)
+  non_confirmable e = rw (ne_eqb (get_or s at 0) 1 (omega arith), eq-eqb (get_or s at 0) 2 e)
 
-  pub not-used : (get_or s at 0 ≡ 1 → ⊥) → (get_or s at 0 ≡ 2 → ⊥) → place_at s at ≡ unused
+  pub not_used : (get_or s at 0 ≡ 1 → ⊥) → (get_or s at 0 ≡ 2 → ⊥) → place_at s at ≡ unused
   unfolding place_at
-  not-used f g = rw (ne_eqb (get_or s at 0) 1 f, ne_eqb (get_or s at 0) 2 g)
+  not_used f g = rw (ne_eqb (get_or s at 0) 1 f, ne_eqb (get_or s at 0) 2 g)
 
   -- Whether the place is free.
-  pub free-confirmable : (now t : ℕ) → get_or s at 0 ≡ 1 → t ≡ number (part s (at + 21) 4) → leb (t + 247) now ≡ free now (place_at s at)
-  free-confirmable now t e i = rw (confirmable e, i) (not_less now (number (part s (at + 21) 4) + 247))
+  pub free_confirmable : (now t : ℕ) → get_or s at 0 ≡ 1 → t ≡ number (part s (at + 21) 4) → leb (t + 247) now ≡ free now (place_at s at)
+  free_confirmable now t e i = rw (confirmable e, i) (not_less now (number (part s (at + 21) 4) + 247))
 
-  pub free-non : (now t : ℕ) → get_or s at 0 ≡ 2 → t ≡ number (part s (at + 21) 4) → leb (t + 145) now ≡ free now (place_at s at)
-  free-non now t e i = rw (non-confirmable e, i) (not_less now (number (part s (at + 21) 4) + 145))
+  pub free_non : (now t : ℕ) → get_or s at 0 ≡ 2 → t ≡ number (part s (at + 21) 4) → leb (t + 145) now ≡ free now (place_at s at)
+  free_non now t e i = rw (non_confirmable e, i) (not_less now (number (part s (at + 21) 4) + 145))
 
-  pub free-unused : (now : ℕ) → (get_or s at 0 ≡ 1 → ⊥) → (get_or s at 0 ≡ 2 → ⊥) → true ≡ free now (place_at s at)
-  free-unused now f g = rw (not-used f g)
+  pub free_unused : (now : ℕ) → (get_or s at 0 ≡ 1 → ⊥) → (get_or s at 0 ≡ 2 → ⊥) → true ≡ free now (place_at s at)
+  free_unused now f g = rw (not_used f g)
 
   -- Whether the same message stands there: not where the type is another, or the place is free.
   module _ (m : Arrival) where
-    and-false : (a b : Bool) → b ≡ false → both a b ≡ false
-    and-false true b e = e
-    and-false false b e = refl
+    and_false : (a b : Bool) → b ≡ false → both a b ≡ false
+    and_false true b e = e
+    and_false false b e = refl
 
-    and-swap : (a b : Bool) → both a b ≡ both b a
-    and-swap true true = refl
-    and-swap true false = refl
-    and-swap false true = refl
-    and-swap false false = refl
+    and_swap : (a b : Bool) → both a b ≡ both b a
+    and_swap true true = refl
+    and_swap true false = refl
+    and_swap false true = refl
+    and_swap false false = refl
 
-    other-type : (k now : ℕ) → (k ≡ m.type → ⊥) → both (unexpired now (entry_at k s at)) (same m (entry_at k s at)) ≡ false
-    other-type k now f = and-false (unexpired now (entry_at k s at)) (same m (entry_at k s at)) (rw (ne_eqb k m.type f))
+    other_type : (k now : ℕ) → (k ≡ m.type → ⊥) → both (unexpired now (entry_at k s at)) (same m (entry_at k s at)) ≡ false
+    other_type k now f = and_false (unexpired now (entry_at k s at)) (same m (entry_at k s at)) (rw (ne_eqb k m.type f))
 
     pub other : (get_or s at 0 ≡ m.type + 1 → ⊥) → stands_at m (place_at s at) ≡ false
     other f =
         by_eq (get_or s at 0) 1
-        (λ e. rw (confirmable e) (other-type 0 m.time (λ k. f (omega arith))))
-        (λ e. by_eq (get_or s at 0) 2 (λ d. rw (non-confirmable d) (other-type 1 m.time (λ k. f (omega arith)))) (λ d. rw (not-used e d)))
+        (λ e. rw (confirmable e) (other_type 0 m.time (λ k. f (omega arith))))
+        (λ e. by_eq (get_or s at 0) 2 (λ d. rw (non_confirmable d) (other_type 1 m.time (λ k. f (omega arith)))) (λ d. rw (not_used e d)))
 
-    free-not : (q : Place) → free m.time q ≡ true → stands_at m q ≡ false
-    free-not unused f = refl
-    free-not (holds e) f = rw (not-true (unexpired m.time e) f)
+    free_not : (q : Place) → free m.time q ≡ true → stands_at m q ≡ false
+    free_not unused f = refl
+    free_not (holds e) f = rw (not-true (unexpired m.time e) f)
 
     pub free_other : free m.time (place_at s at) ≡ true → stands_at m (place_at s at) ≡ false
-    free_other f = free-not (place_at s at) f
+    free_other f = free_not (place_at s at) f
 
     -- Else id and peer are compared.
-    live-is : (k : ℕ) → k ≡ m.type → not (unexpired m.time (entry_at k s at)) ≡ false
+    live_is : (k : ℕ) → k ≡ m.type → not (unexpired m.time (entry_at k s at)) ≡ false
         → both (unexpired m.time (entry_at k s at)) (same m (entry_at k s at)) ≡ both (eqb (number (part s (at + 19) 2)) m.id) (alike (part s (at + 1) 18) m.peer)
-    live-is k e f =
+    live_is k e f =
         rw (not-false (unexpired m.time (entry_at k s at)) f, eq-eqb k m.type e)
-        (and-swap (alike (part s (at + 1) 18) m.peer) (eqb (number (part s (at + 19) 2)) m.id))
+        (and_swap (alike (part s (at + 1) 18) m.peer) (eqb (number (part s (at + 19) 2)) m.id))
 
     module _ (h : m.type ≤ 1) (e : get_or s at 0 ≡ m.type + 1) (f : free m.time (place_at s at) ≡ false) where
       compared : stands_at m (place_at s at) ≡ both (eqb (number (part s (at + 19) 2)) m.id) (alike (part s (at + 1) 18) m.peer)
       compared =
           by_eq m.type 0
-          (λ z. let o = confirmable (omega arith) in rw o (live-is 0 (sym z) (rw o at f)))
-          (λ z. let o = non-confirmable (omega arith) in rw o (live-is 1 (omega arith) (rw o at f)))
+          (λ z. let o = confirmable (omega arith) in rw o (live_is 0 (sym z) (rw o at f)))
+          (λ z. let o = non_confirmable (omega arith) in rw o (live_is 1 (omega arith) (rw o at f)))
 
-      pub other-id : (number (part s (at + 19) 2) ≡ m.id → ⊥) → stands_at m (place_at s at) ≡ false
-      other-id d = compared ∙ rw (ne_eqb (number (part s (at + 19) 2)) m.id d)
+      pub other_id : (number (part s (at + 19) 2) ≡ m.id → ⊥) → stands_at m (place_at s at) ≡ false
+      other_id d = compared ∙ rw (ne_eqb (number (part s (at + 19) 2)) m.id d)
 
-      pub by-peer : number (part s (at + 19) 2) ≡ m.id → stands_at m (place_at s at) ≡ alike (part s (at + 1) 18) m.peer
-      by-peer d = compared ∙ rw (eq-eqb (number (part s (at + 19) 2)) m.id d)
+      pub by_peer : number (part s (at + 19) 2) ≡ m.id → stands_at m (place_at s at) ≡ alike (part s (at + 1) 18) m.peer
+      by_peer d = compared ∙ rw (eq-eqb (number (part s (at + 19) 2)) m.id d)
 
 -- A walk over the places: what is left of the table from a position on decides.
 pub record Left {A : Type 0} (f : List Place → A) (s : List ℕ) (at : ℕ) (a : A) : Type 0 where
@@ -122,23 +122,23 @@ stands_place m unused qs = refl
 stands_place m (holds e) qs = refl
 
 module _ (m : Arrival) (s : List ℕ) (at : ℕ) (a : Bool) (w : Left (λ (qs : List Place). stands m (entries qs)) s at a) where
-  known-first : (n : ℕ) → w.left ≡ suc n → either (stands_at m (place_at s at)) (stands m (entries (places_from n s (at + 25)))) ≡ a
+  known_first : (n : ℕ) → w.left ≡ suc n → either (stands_at m (place_at s at)) (stands m (entries (places_from n s (at + 25)))) ≡ a
   unfolding places_from
-  known-first n e = sym (stands_place m (place_at s at) (places_from n s (at + 25))) ∙ (rw e at w.is)
+  known_first n e = sym (stands_place m (place_at s at) (places_from n s (at + 25))) ∙ (rw e at w.is)
 
-  pub known-found : at < 1600 → true ≡ stands_at m (place_at s at) → true ≡ a
-  known-found h e =
+  pub known_found : at < 1600 → true ≡ stands_at m (place_at s at) → true ≡ a
+  known_found h e =
       let n : w.left ≡ suc (w.left - 1) = omega (arith, w.sum) in
-      rw (sym e) at (known-first (w.left - 1) n)
+      rw (sym e) at (known_first (w.left - 1) n)
 
-  pub known-turn : at < 1600 → false ≡ stands_at m (place_at s at) → Left (λ (qs : List Place). stands m (entries qs)) s (at + 25) a
-  known-turn h e =
+  pub known_turn : at < 1600 → false ≡ stands_at m (place_at s at) → Left (λ (qs : List Place). stands m (entries qs)) s (at + 25) a
+  known_turn h e =
       let n : w.left ≡ suc (w.left - 1) = omega (arith, w.sum) in
-      record { left = w.left - 1; sum = omega (arith, w.sum); is = rw (sym e) at (known-first (w.left - 1) n) }
+      record { left = w.left - 1; sum = omega (arith, w.sum); is = rw (sym e) at (known_first (w.left - 1) n) }
 
-  pub known-end : 1600 ≤ at → false ≡ a
+  pub known_end : 1600 ≤ at → false ≡ a
   unfolding places_from stands
-  known-end h =
+  known_end h =
       let n : w.left ≡ 0 = omega (arith, w.sum) in
       rw n at w.is
 
@@ -151,8 +151,8 @@ module _ (now : ℕ) (s : List ℕ) (at : ℕ) (w : Left (λ (qs : List Place). 
   unfolding places_from lowest
   low_first n e = rw e at w.is
 
-  pub low-found : at < 1600 → true ≡ free now (place_at s at) → Lowest now s at
-  low-found h e =
+  pub low_found : at < 1600 → true ≡ free now (place_at s at) → Lowest now s at
+  low_found h e =
       let n : w.left ≡ suc (w.left - 1) = omega (arith, w.sum) in
       let f = rw (sym e) at (low_first (w.left - 1) n) in
       record { is = omega arith; most = omega arith }

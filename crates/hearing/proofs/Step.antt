@@ -17,9 +17,9 @@ use Rattle.hearing.specs.Table.{holds, entries, lowest, judging}
 use Rattle.hearing.specs.Bytes.{places}
 use Rattle.hearing.specs.Hearing.{Fits, hearing, leaving}
 use Rattle.hearing.specs.Told.{Holds}
-use Rattle.hearing.proofs.Answers.{sixty-four}
+use Rattle.hearing.proofs.Answers.{sixty_four}
 use Rattle.hearing.proofs.Counts.{lowest_full, count_taken, among_set, weigh}
-use Rattle.hearing.proofs.Left.{places-left, length_left}
+use Rattle.hearing.proofs.Left.{places_left, length_left}
 use Rattle.hearing.proofs.Telling.{placed, telling, Accepted, accepted, room_left}
 
 by_cases : (a b : Bool) (n : ℕ) → pick a (given passed) (pick b (given duplicate) (pick (ltb n 64) (given new) (refused 12))) ≡ placed n (pick a passed (pick b duplicate new))
@@ -28,15 +28,15 @@ by_cases false true n = refl
 by_cases false false n = refl
 
 module _ (before : ℕ) (s : List ℕ) (fresh : List Arrival) (m : Arrival) (k : Holds before s fresh) where
-  same-standing : before ≤ m.time → stands m (entries (places s)) ≡ stands m fresh
-  same-standing h =
+  same_standing : before ≤ m.time → stands m (entries (places s)) ≡ stands m fresh
+  same_standing h =
       stands_count m (entries (places s)) ∙ (ap (λ (n : ℕ). ltb 0 n) (k.counts m.time h (same m)) ∙ sym (stands_count m fresh))
 
-  same-room : before ≤ m.time → ltb (lowest m.time (places s)) (length (places s)) ≡ ltb (count m.time any fresh) 64
-  same-room h =
+  same_room : before ≤ m.time → ltb (lowest m.time (places s)) (length (places s)) ≡ ltb (count m.time any fresh) 64
+  same_room h =
       lowest_full m.time (places s)
       ∙ (ap (λ (n : ℕ). ltb n (length (places s))) (k.counts m.time h any)
-      ∙ ap (ltb (count m.time any fresh)) (sixty-four before s m))
+      ∙ ap (ltb (count m.time any fresh)) (sixty_four before s m))
 
   -- The table's answer is the history's.
   pub agrees : hearing before s m ≡ telling before fresh m
@@ -44,7 +44,7 @@ module _ (before : ℕ) (s : List ℕ) (fresh : List Arrival) (m : Arrival) (k :
   agrees =
       by_lt m.time before (λ h. rw (lt-ltb m.time before h))
       (λ h.
-      rw (le-ltb m.time before h, le-ltb (length s) 1600 k.size, same-standing h, same-room h)
+      rw (le-ltb m.time before h, le-ltb (length s) 1600 k.size, same_standing h, same_room h)
       (by_cases (passes m) (stands m fresh) (count m.time any fresh)))
 
 module _ (before : ℕ) (s : List ℕ) (fresh : List Arrival) (m : Arrival) (k : Holds before s fresh) (f : Fits m) where
@@ -52,8 +52,8 @@ module _ (before : ℕ) (s : List ℕ) (fresh : List Arrival) (m : Arrival) (k :
   unfolding count
   kept_new e a =
       let few = room_left (count m.time any fresh) a.room in
-      let l : lowest m.time (places s) < length (places s) = ltb-true _ _ (same-room before s fresh m k a.time ∙ lt-ltb (count m.time any fresh) 64 few) in
-      let p = places-left before s m f e in
+      let l : lowest m.time (places s) < length (places s) = ltb-true _ _ (same_room before s fresh m k a.time ∙ lt-ltb (count m.time any fresh) 64 few) in
+      let p = places_left before s m f e in
       record {
         size = rw (length_left (given new) m s) k.size;
         counts =

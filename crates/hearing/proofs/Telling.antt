@@ -60,16 +60,16 @@ full_at passed n k = λ e. not_refused e
 
 module _ (room before : ℕ) (fresh : List Arrival) (m : Arrival) where
   -- With places left the listing has no say.
-  pub told-roomy : 0 < room → telling_in room before fresh m ≡ telling before fresh m
+  pub told_roomy : 0 < room → telling_in room before fresh m ≡ telling before fresh m
   unfolding telling_in telling
-  told-roomy h =
+  told_roomy h =
       on_lt (λ (a : Answer Verdict). pick (ltb m.time before) (refused 21) (pick (eqb room 0) (refused 12) a) ≡ a) m.time before
       (λ t. rw (lt-ltb m.time before t)) (λ t. rw (le-ltb m.time before t, ne_eqb room 0 (λ e. omega arith)))
 
   -- Why it is refused, and that it is refused for each reason.
-  pub told-why : (k : ℕ) → telling_in room before fresh m ≡ refused k → Why room before fresh m k
+  pub told_why : (k : ℕ) → telling_in room before fresh m ≡ refused k → Why room before fresh m k
   unfolding telling_in telling
-  told-why k =
+  told_why k =
       on_lt P m.time before (λ h e. inl (same_refused (sym e), h))
       (λ h. on_eq P room 0 (λ z e. inr (same_refused (sym e), h, inl z))
       (λ _. on_lt P m.time before (λ t e. absurd (omega arith))
@@ -78,10 +78,10 @@ module _ (room before : ℕ) (fresh : List Arrival) (m : Arrival) where
       P : Answer Verdict → Type 0
       P a = a ≡ refused k → Why room before fresh m k
 
-  pub why-told : (k : ℕ) → Why room before fresh m k → telling_in room before fresh m ≡ refused k
+  pub why_told : (k : ℕ) → Why room before fresh m k → telling_in room before fresh m ≡ refused k
   unfolding telling_in telling
-  why-told k (inl (e, h)) = rw (lt-ltb m.time before h, e)
-  why-told k (inr (e, h, inl z)) = rw (le-ltb m.time before h, eq-eqb room 0 z, e)
-  why-told k (inr (e, h, inr p)) =
+  why_told k (inl (e, h)) = rw (lt-ltb m.time before h, e)
+  why_told k (inr (e, h, inl z)) = rw (le-ltb m.time before h, eq-eqb room 0 z, e)
+  why_told k (inr (e, h, inr p)) =
       by_eq room 0 (λ z. rw (le-ltb m.time before h, eq-eqb room 0 z, e))
       (λ z. rw (le-ltb m.time before h, ne_eqb room 0 z, p.is_new, le-ltb (count m.time any fresh) 64 p.full, e))

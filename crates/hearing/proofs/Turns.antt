@@ -13,8 +13,8 @@ use Rattle.refusal.proofs.Answers.{not_refused, same_refused}
 use Rattle.hearing.specs.Hearing.{Fits, hearing, leaving}
 use Rattle.hearing.specs.Calls.{letter, calling, Calls, further, calls_from, AllFit}
 use Rattle.hearing.specs.Told.{Holds, Why, Whole, Ended}
-use Rattle.hearing.proofs.Left.{behind-left}
-use Rattle.hearing.proofs.Telling.{telling_in, accepted, told-why, why-told}
+use Rattle.hearing.proofs.Left.{behind_left}
+use Rattle.hearing.proofs.Telling.{telling_in, accepted, told_why, why_told}
 use Rattle.hearing.proofs.Step.{agrees, kept}
 
 -- With places left the listing has no say; with none, 21 goes before 12.
@@ -60,7 +60,7 @@ goes : (room before : ℕ) (s : List ℕ) (fresh : List Arrival) (m : Arrival) (
 goes room before s fresh m v k f e =
     let h = (listed room before s m v e).heard in
     let a = accepted before fresh m v (sym (agrees before s fresh m k) ∙ h) in
-    record { time = a.time; is = a.is; holds = kept before s fresh m k f v h; behind = behind-left before s m f v h }
+    record { time = a.time; is = a.is; holds = kept before s fresh m k f v h; behind = behind_left before s m f v h }
 
 one_more : {v w : Verdict} {l k : List ℕ} → w ≡ v → l ≡ k → letter v ∷ l ≡ letter w ∷ k
 one_more i e = rw (i, e)
@@ -90,7 +90,7 @@ module _ (room before : ℕ) (s : List ℕ) (fresh : List Arrival) (m : Arrival)
         at = m;
         rest = ms;
         split = refl;
-        why = rw none (told-why room before fresh m n (sym (agrees_in room before s fresh m k) ∙ (c ∙ ap (λ (x : ℕ). refused x) (same_refused e))));
+        why = rw none (told_why room before fresh m n (sym (agrees_in room before s fresh m k) ∙ (c ∙ ap (λ (x : ℕ). refused x) (same_refused e))));
         whole = refl;
         listing = refl;
         left = refl;
@@ -156,11 +156,11 @@ module _ (room before : ℕ) (s : List ℕ) (fresh : List Arrival) (k : Holds be
   unfolding calls_from
   ends front m rest n f e h =
       let w = (whole room before s fresh front k f e).holds in
-      let c = agrees_in (room - length front) (last_time before front) (calls_from room before s front).table (fresh_from fresh front) m w ∙ why-told (room - length front) (last_time before front) (fresh_from fresh front) m n h in
+      let c = agrees_in (room - length front) (last_time before front) (calls_from room before s front).table (fresh_from fresh front) m w ∙ why_told (room - length front) (last_time before front) (fresh_from fresh front) m n h in
       rw (in_two room before s front (m ∷ rest) e, c)
 
-  pub ends-exactly : (ms : List Arrival) (n : ℕ) → AllFit ms → ((calls_from room before s ms).outcome ≡ refused n) ↔ Ended room before s fresh ms n (calls_from room before s ms)
-  ends-exactly ms n f =
+  pub ends_exactly : (ms : List Arrival) (n : ℕ) → AllFit ms → ((calls_from room before s ms).outcome ≡ refused n) ↔ Ended room before s fresh ms n (calls_from room before s ms)
+  ends_exactly ms n f =
       (λ e. ended room before s fresh ms n k f e, λ x. rw x.split (ends x.front x.at x.rest n (all_front x.front (x.at ∷ x.rest) (rw x.split at f)) x.whole x.why))
 
 -- Where nothing is refused, no time was less than the one before, and each message had a place in the listing.

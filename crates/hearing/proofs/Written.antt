@@ -67,8 +67,8 @@ module _ (m : Arrival) (ok : Entry m) where
       rw (ne_eqb (m.type + 1) 1 (λ e. z (omega arith)), eq-eqb (m.type + 1) 2 (omega arith), id, time)
       (ap (λ (k : ℕ). holds (record { time = m.time; type = k; peer = m.peer; id = m.id })) (sym one)))
 
-  place-bytes : place_at (entry_bytes m) 0 ≡ holds m
-  place-bytes =
+  place_bytes : place_at (entry_bytes m) 0 ≡ holds m
+  place_bytes =
       let tail = two_bytes m.id ++ four_bytes m.time in
       let peer : part (entry_bytes m) 1 18 ≡ m.peer = take_at m.peer tail 18 ok.peer in
       let id : part (entry_bytes m) 19 2 ≡ two_bytes m.id = ap (take 2) (drop_at m.peer tail 18 ok.peer) in
@@ -77,31 +77,31 @@ module _ (m : Arrival) (ok : Entry m) where
       place_is (entry_bytes m) 0 ∙ ((cc) ∙ place_of)
 
   -- The place where the entry was put holds the message.
-  place-written : (s : List ℕ) (at : ℕ) → at + 25 ≤ length s → place_at (sets s at (entry_bytes m)) at ≡ holds m
-  place-written s at h =
+  place_written : (s : List ℕ) (at : ℕ) → at + 25 ≤ length s → place_at (sets s at (entry_bytes m)) at ≡ holds m
+  place_written s at h =
       let put : part (sets s at (entry_bytes m)) at 25 ≡ entry_bytes m =
       ap (part (sets s at (entry_bytes m)) at) (sym entry_length) ∙ part_put s at (entry_bytes m) (omega (arith, entry_length)) in
-      place_part (sets s at (entry_bytes m)) at ∙ (ap (λ (b : List ℕ). place_at b 0) put ∙ place-bytes)
+      place_part (sets s at (entry_bytes m)) at ∙ (ap (λ (b : List ℕ). place_at b 0) put ∙ place_bytes)
 
   -- Places behind it stay.
-  places-after : (n : ℕ) (s : List ℕ) (at p : ℕ) → at + 25 ≤ p → places_from n (sets s at (entry_bytes m)) p ≡ places_from n s p
+  places_after : (n : ℕ) (s : List ℕ) (at p : ℕ) → at + 25 ≤ p → places_from n (sets s at (entry_bytes m)) p ≡ places_from n s p
   unfolding places_from
-  places-after zero s at p h = refl
-  places-after (suc n) s at p h =
+  places_after zero s at p h = refl
+  places_after (suc n) s at p h =
       let a = place_same (sets s at (entry_bytes m)) s p (ap (take 25) (part_after (entry_bytes m) s at p (omega (arith, entry_length)))) in
-      let b = places-after n s at (p + 25) (omega arith) in
+      let b = places_after n s at (p + 25) (omega arith) in
       cc
 
   -- So an entry that was put at a place stands there, among the others.
-  pub places-written : (n k : ℕ) (s : List ℕ) (at p : ℕ) → k < n → at ≡ p + k * 25 → p + n * 25 ≤ length s → places_from n (sets s at (entry_bytes m)) p ≡ set (places_from n s p) k (holds m)
+  pub places_written : (n k : ℕ) (s : List ℕ) (at p : ℕ) → k < n → at ≡ p + k * 25 → p + n * 25 ≤ length s → places_from n (sets s at (entry_bytes m)) p ≡ set (places_from n s p) k (holds m)
   unfolding places_from
-  places-written zero k s at p h e l = absurd (omega arith)
-  places-written (suc n) zero s at p h e l =
+  places_written zero k s at p h e l = absurd (omega arith)
+  places_written (suc n) zero s at p h e l =
       let z : at ≡ p = omega arith in
-      let a : place_at (sets s p (entry_bytes m)) p ≡ holds m = place-written s p (omega arith) in
-      let b = places-after n s p (p + 25) (omega arith) in
+      let a : place_at (sets s p (entry_bytes m)) p ≡ holds m = place_written s p (omega arith) in
+      let b = places_after n s p (p + 25) (omega arith) in
       rw z (cc)
-  places-written (suc n) (suc k) s at p h e l =
+  places_written (suc n) (suc k) s at p h e l =
       let a = place_same (sets s at (entry_bytes m)) s p (part_before (entry_bytes m) s at p 25 (omega arith)) in
-      let b = places-written n k s at (p + 25) (omega arith) (omega arith) (omega arith) in
+      let b = places_written n k s at (p + 25) (omega arith) (omega arith) (omega arith) in
       cc

@@ -1,5 +1,6 @@
 // The duplicate rule of RFC 7252, section 4.5, one message after the other, over a lent table of 64 places.
 #![tactic(auto)]
+
 ghost use Rattle.std.specs.Prelude.{◌≡◌, ◌+◌, ◌<◌, ◌≤◌, length};
 ghost use Rattle.ground.specs.Part.{part};
 ghost use Rattle.rfc.specs.Duplicates.{alike, stands};

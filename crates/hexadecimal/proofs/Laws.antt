@@ -51,12 +51,12 @@ unhex_digits bytes h =
 
 -- What putting the bytes of a text shows: a text that is none, no room at the place, and bytes put there.
 module _ (old text : List ℕ) (at : ℕ) where
-  pub unhex-bad : is_hex text ≡ false → (refused 15 ≡ unhex_into (length old) at text) × (old ≡ after (unhex_into (length old) at text) at (pairs text) old)
-  unhex-bad e = (rw e refl, rw e refl)
+  pub unhex_bad : is_hex text ≡ false → (refused 15 ≡ unhex_into (length old) at text) × (old ≡ after (unhex_into (length old) at text) at (pairs text) old)
+  unhex_bad e = (rw e refl, rw e refl)
 
-  pub unhex-room : is_hex text ≡ true → length old < at + length text / 2 → (refused 12 ≡ unhex_into (length old) at text) × (old ≡ after (unhex_into (length old) at text) at (pairs text) old)
-  unhex-room e h = rw e (no_place old (pairs text) at (length (pairs text)) (omega (arith, length_pairs text)))
+  pub unhex_room : is_hex text ≡ true → length old < at + length text / 2 → (refused 12 ≡ unhex_into (length old) at text) × (old ≡ after (unhex_into (length old) at text) at (pairs text) old)
+  unhex_room e h = rw e (no_place old (pairs text) at (length (pairs text)) (omega (arith, length_pairs text)))
 
-  pub unhex-put : {r : ℕ} {new : List ℕ} → is_hex text ≡ true → at + length text / 2 ≤ length old → Puts old at (pairs text) r new → (given (length text / 2) ≡ unhex_into (length old) at text) × (new ≡ after (unhex_into (length old) at text) at (pairs text) old)
-  unhex-put e h p =
+  pub unhex_put : {r : ℕ} {new : List ℕ} → is_hex text ≡ true → at + length text / 2 ≤ length old → Puts old at (pairs text) r new → (given (length text / 2) ≡ unhex_into (length old) at text) × (new ≡ after (unhex_into (length old) at text) at (pairs text) old)
+  unhex_put e h p =
       rw (e, sym (length_pairs text)) (puts_placed (length (pairs text)) p (omega (arith, length_pairs text)))

@@ -1,5 +1,6 @@
 // Bytes as hexadecimal text, both ways: put into a lent output as digits, and put as bytes that digits stand for.
 #![tactic(auto)]
+
 ghost use Rattle.std.specs.Prelude.{◌≡◌, true, ◌<◌, length};
 ghost use Rattle.refusal.specs.Answer.{written, after};
 ghost use Rattle.placing.specs.Put.{Puts};

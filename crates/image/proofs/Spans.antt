@@ -37,58 +37,58 @@ module _ (held : List ℕ) (from n : ℕ) where
 
   module _ (w : Bool) where
     -- Those of a part, by their places in the whole.
-    span-from : ((unit : ℕ) → from ≤ unit → unit < from + n → unit < length held → missing held unit ≡ w) → alike w (part held from n) ≡ true
-    span-from f =
+    span_from : ((unit : ℕ) → from ≤ unit → unit < from + n → unit < length held → missing held unit ≡ w) → alike w (part held from n) ≡ true
+    span_from f =
         alike_from w (part held from n)
         (λ i h.
         ap (λ (b : ℕ). eqb b 0) (part_at i (omega (arith, part_length)))
         ∙ f (from + i) (omega arith) (omega (arith, part_length)) (omega (arith, part_length)))
 
-    span-at : alike w (part held from n) ≡ true → (unit : ℕ) → from ≤ unit → unit < from + n → unit < length held → missing held unit ≡ w
-    span-at e u l h m =
+    span_at : alike w (part held from n) ≡ true → (unit : ℕ) → from ≤ unit → unit < from + n → unit < length held → missing held unit ≡ w
+    span_at e u l h m =
         let back : from + (u - from) ≡ u = omega arith in
         ap (λ (k : ℕ). missing held k) (sym back)
         ∙ (ap (λ (b : ℕ). eqb b 0) (sym (part_at (u - from) (omega arith)))
         ∙ alike_at w (part held from n) e (u - from) (omega (arith, part_length)))
 
-  pub held-so : alike false (part held from n) ≡ true → NoneMissing held from (from + n)
-  held-so e u l h m = eqb-false (get_or held u 0) 0 (span-at false e u l h m.exists) m.zero
+  pub held_so : alike false (part held from n) ≡ true → NoneMissing held from (from + n)
+  held_so e u l h m = eqb-false (get_or held u 0) 0 (span_at false e u l h m.exists) m.zero
 
-  pub so-held : NoneMissing held from (from + n) → alike false (part held from n) ≡ true
-  so-held f =
-      span-from false
+  pub so_held : NoneMissing held from (from + n) → alike false (part held from n) ≡ true
+  so_held f =
+      span_from false
       (λ u l h k. ne_eqb (get_or held u 0) 0 (λ z. f u l h (record { exists = k; zero = z })))
 
-  pub missing-so : alike true (part held from n) ≡ true → NoneHeld held from (from + n)
-  missing-so e u l h m = m.other (eqb-true (get_or held u 0) 0 (span-at true e u l h m.exists))
+  pub missing_so : alike true (part held from n) ≡ true → NoneHeld held from (from + n)
+  missing_so e u l h m = m.other (eqb-true (get_or held u 0) 0 (span_at true e u l h m.exists))
 
-  pub so-missing : NoneHeld held from (from + n) → alike true (part held from n) ≡ true
-  so-missing f =
-      span-from true
+  pub so_missing : NoneHeld held from (from + n) → alike true (part held from n) ≡ true
+  so_missing f =
+      span_from true
       (λ u l h k.
       by_eq (get_or held u 0) 0 (λ z. eq-eqb (get_or held u 0) 0 z) (λ z. absurd (f u l h (record { exists = k; other = z }))))
 
 -- The same of the units from one to before another.
 module _ (held : List ℕ) (from to : ℕ) where
   pub held_to : alike false (part held from (to - from)) ≡ true → NoneMissing held from to
-  held_to e u l h m = held-so held from (to - from) e u l (omega arith) m
+  held_to e u l h m = held_so held from (to - from) e u l (omega arith) m
 
   pub to_held : NoneMissing held from to → alike false (part held from (to - from)) ≡ true
-  to_held f = so-held held from (to - from) (λ u l h m. f u l (omega arith) m)
+  to_held f = so_held held from (to - from) (λ u l h m. f u l (omega arith) m)
 
-  pub missing-to : alike true (part held from (to - from)) ≡ true → NoneHeld held from to
-  missing-to e u l h m = missing-so held from (to - from) e u l (omega arith) m
+  pub missing_to : alike true (part held from (to - from)) ≡ true → NoneHeld held from to
+  missing_to e u l h m = missing_so held from (to - from) e u l (omega arith) m
 
-  pub to-missing : NoneHeld held from to → alike true (part held from (to - from)) ≡ true
-  to-missing f = so-missing held from (to - from) (λ u l h m. f u l (omega arith) m)
+  pub to_missing : NoneHeld held from to → alike true (part held from (to - from)) ≡ true
+  to_missing f = so_missing held from (to - from) (λ u l h m. f u l (omega arith) m)
 
 -- What is left of the units from one to before another: no unit, or one and the others.
 module _ (w : Bool) (held : List ℕ) (u to : ℕ) where
   pub none_left : to ≤ u → alike w (part held u (to - u)) ≡ true
-  none_left h = span-from held u (to - u) w (λ unit l k m. absurd (omega arith))
+  none_left h = span_from held u (to - u) w (λ unit l k m. absurd (omega arith))
 
   pub past_end : length held ≤ u → alike w (part held u (to - u)) ≡ true
-  past_end h = span-from held u (to - u) w (λ unit l k m. absurd (omega arith))
+  past_end h = span_from held u (to - u) w (λ unit l k m. absurd (omega arith))
 
   module _ (h : u < to) (k : u < length held) where
     one_left : alike w (part held u (to - u)) ≡ both (beq (missing held u) w) (alike w (part held (u + 1) (to - (u + 1))))
@@ -97,8 +97,8 @@ module _ (w : Bool) (held : List ℕ) (u to : ℕ) where
         let d : drop u held ≡ get_or held u 0 ∷ drop (u + 1) held = rw (add-one, drop-cons held u 0) in
         ap (λ (m : ℕ). alike w (take m (drop u held))) n ∙ ap (λ (l : List ℕ). alike w (take (suc (to - (u + 1))) l)) d
 
-    pub other-left : beq (missing held u) w ≡ false → alike w (part held u (to - u)) ≡ false
-    other-left e = one_left ∙ ap (λ (t : Bool). both t (alike w (part held (u + 1) (to - (u + 1))))) e
+    pub other_left : beq (missing held u) w ≡ false → alike w (part held u (to - u)) ≡ false
+    other_left e = one_left ∙ ap (λ (t : Bool). both t (alike w (part held (u + 1) (to - (u + 1))))) e
 
     pub same_left : beq (missing held u) w ≡ true → alike w (part held u (to - u)) ≡ alike w (part held (u + 1) (to - (u + 1)))
     same_left e = one_left ∙ ap (λ (t : Bool). both t (alike w (part held (u + 1) (to - (u + 1))))) e

@@ -1,6 +1,7 @@
 // An image in units of 16 bytes, each held or missing: whether a list of what is held fits it, and whether some units are all
 // the same.
 #![tactic(auto)]
+
 ghost use Rattle.std.specs.Prelude.{◌≡◌, ◌-◌};
 ghost use Rattle.ground.specs.Part.{part};
 ghost use Rattle.image.specs.Image.{fits, alike};

@@ -49,25 +49,25 @@ module _ (lengths : Lengths) (p : Packet) where
         values = last.1;
       }
 
-  pub not-bad : Good lengths p → bad_packet lengths p ≡ false
+  pub not_bad : Good lengths p → bad_packet lengths p ≡ false
   unfolding bad_packet
-  not-bad g =
+  not_bad g =
       rw (le-ltb 3 p.header.version g.version, le-ltb max_options p.count g.count, g.ordered, le-ltb (length_in lengths p.token.home) (p.token.start + p.token.len) g.token, le-ltb (length_in lengths p.payload.home) (p.payload.start + p.payload.len) g.payload, le-ltb max_token p.token.len g.token_length, g.values)
 
 -- What an answer says of the packet.
 module _ (lengths : Lengths) (p : Packet) where
-  pub is-bad : (r : Judged) → judged r ≡ judging lengths p → r ≡ BadRecord → bad_packet lengths p ≡ true
+  pub is_bad : (r : Judged) → judged r ≡ judging lengths p → r ≡ BadRecord → bad_packet lengths p ≡ true
   unfolding judging
-  is-bad r e b = go (bad_packet lengths p) (sym (ap judged b) ∙ e)
+  is_bad r e b = go (bad_packet lengths p) (sym (ap judged b) ∙ e)
     where
       go : (t : Bool) → refused 11 ≡ pick t (refused 11) (given (options_size 0 (records_of p))) → t ≡ true
       go true d = refl
       go false d = cc
 
-  pub is-good : (r : Judged) → judged r ≡ judging lengths p → (n : ℕ) → r ≡ OptionsSize n
+  pub is_good : (r : Judged) → judged r ≡ judging lengths p → (n : ℕ) → r ≡ OptionsSize n
       → (bad_packet lengths p ≡ false) × (n ≡ options_size 0 (records_of p))
   unfolding judging
-  is-good r e n b = go (bad_packet lengths p) (sym (ap judged b) ∙ e)
+  is_good r e n b = go (bad_packet lengths p) (sym (ap judged b) ∙ e)
     where
       go : (t : Bool) → given n ≡ pick t (refused 11) (given (options_size 0 (records_of p))) → (t ≡ false) × (n ≡ options_size 0 (records_of p))
       go true d = (cc, cc)
@@ -85,8 +85,8 @@ module _ (lengths : Lengths) (r : OptionRecord) (e : bad_value lengths r ≡ fal
   pub value_inside : r.start + r.len ≤ length_in lengths r.home
   value_inside = ltb-false (length_in lengths r.home) (r.start + r.len) (neither (outside lengths (range_of r)) (ltb max_value r.len) e).0
 
-  pub value-length : r.len ≤ max_value
-  value-length = ltb-false max_value r.len (neither (outside lengths (range_of r)) (ltb max_value r.len) e).1
+  pub value_length : r.len ≤ max_value
+  value_length = ltb-false max_value r.len (neither (outside lengths (range_of r)) (ltb max_value r.len) e).1
 
 -- An extension has two bytes at most, and an option five more than its value.
 pub extension_small : (n : ℕ) → extension_size n ≤ 2
@@ -101,4 +101,4 @@ pub options_small : (lengths : Lengths) (before : ℕ) (rs : List OptionRecord) 
 options_small lengths before [] e = omega arith
 options_small lengths before (r ∷ rs) e =
     let both = neither (bad_value lengths r) (bad_values lengths rs) e in
-    omega (arith, option_small before r (value-length lengths r both.0), options_small lengths r.number rs both.1)
+    omega (arith, option_small before r (value_length lengths r both.0), options_small lengths r.number rs both.1)

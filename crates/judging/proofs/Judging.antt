@@ -17,18 +17,18 @@ use Rattle.packet.specs.declared.OptionRecord.{OptionRecord}
 use Rattle.judging.specs.Judge.{falling, misordered, bad_value, bad_values, bad_ranges, bad_packet, option_size, options_size, judged, judging}
 use Rattle.judging.specs.declared.Lengths.{Lengths}
 use Rattle.judging.specs.declared.Judged.TheVariants.{OptionsSize, BadRecord}
-use Rattle.judging.proofs.Order.{Ordered, ordered_none, ordered-more, sound}
-use Rattle.judging.proofs.Good.{option_small, value-length}
+use Rattle.judging.proofs.Order.{Ordered, ordered_none, ordered_more, sound}
+use Rattle.judging.proofs.Good.{option_small, value_length}
 
 -- One bad thing makes the packet bad, whatever the rest is.
 module _ (lengths : Lengths) (p : Packet) where
-  pub bad-ranges : bad_ranges lengths p.token p.payload ≡ true → bad_packet lengths p ≡ true
+  pub bad_ranges_lem : bad_ranges lengths p.token p.payload ≡ true → bad_packet lengths p ≡ true
   unfolding bad_packet
-  bad-ranges e = either_right (ltb 3 p.header.version) _ (either_right (misordered p) _ (rw e))
+  bad_ranges_lem e = either_right (ltb 3 p.header.version) _ (either_right (misordered p) _ (rw e))
 
-  pub bad-records : either (falling 0 (records_of p)) (bad_values lengths (records_of p)) ≡ true → bad_packet lengths p ≡ true
+  pub bad_records : either (falling 0 (records_of p)) (bad_values lengths (records_of p)) ≡ true → bad_packet lengths p ≡ true
   unfolding bad_packet
-  bad-records e =
+  bad_records e =
       either_right (ltb 3 p.header.version) _
       (go (ltb max_options p.count) (falling 0 (records_of p)) (bad_ranges lengths p.token p.payload) (bad_values lengths (records_of p)) e)
     where
@@ -38,9 +38,9 @@ module _ (lengths : Lengths) (p : Packet) where
       go false false c d t = either_right c d t
 
   -- The answer from the test.
-  pub judged-bad : bad_packet lengths p ≡ true → judged BadRecord ≡ judging lengths p
+  pub judged_bad : bad_packet lengths p ≡ true → judged BadRecord ≡ judging lengths p
   unfolding judging
-  judged-bad e = rw e
+  judged_bad e = rw e
 
   pub judged_good : (size : ℕ) → bad_packet lengths p ≡ false → size ≡ options_size 0 (records_of p) → judged (OptionsSize size) ≡ judging lengths p
   unfolding judging
@@ -71,11 +71,11 @@ module _ (lengths : Lengths) (rs : List OptionRecord) (before size i : ℕ) (w :
     pub turn : Follows lengths before r → i < length rs → Judging lengths rs r.number (size + option_size before r) (i + 1)
     turn f more =
         record {
-          ordered = ordered-more rs i before w.ordered r e f.up more;
+          ordered = ordered_more rs i before w.ordered r e f.up more;
           values = w.values ∙ (ap (bad_values lengths) e ∙ rw f.value);
           sized = add_assoc size (option_size before r) (options_size r.number (drop (i + 1) rs))
               ∙ (ap (λ (l : List OptionRecord). size + options_size before l) (sym e) ∙ w.sized);
-          small = omega (arith, w.small, option_small before r (value-length lengths r f.value));
+          small = omega (arith, w.small, option_small before r (value_length lengths r f.value));
         }
 
     -- The other records make the whole bad.
@@ -91,8 +91,8 @@ module _ (lengths : Lengths) (rs : List OptionRecord) (before size i : ℕ) (w :
 
   -- At the end nothing is left that is bad or to be counted.
   module _ (h : length rs ≤ i) where
-    pub no-fall : falling 0 rs ≡ false
-    no-fall = sound rs i before w.ordered h
+    pub no_fall : falling 0 rs ≡ false
+    no_fall = sound rs i before w.ordered h
 
     pub no_value : bad_values lengths rs ≡ false
     no_value = w.values ∙ ap (bad_values lengths) (drop_of_length-le rs h)

@@ -16,11 +16,11 @@ use Rattle.judging.specs.Judge.{falling, misordered}
 
 -- The first record's number falls, or does not and the others decide.
 module _ (before : ℕ) (l : List OptionRecord) (r : OptionRecord) (rest : List OptionRecord) (e : l ≡ r ∷ rest) where
-  pub falls-here : r.number < before → falling before l ≡ true
-  falls-here h = ap (falling before) e ∙ rw (lt-ltb r.number before h)
+  pub falls_here : r.number < before → falling before l ≡ true
+  falls_here h = ap (falling before) e ∙ rw (lt-ltb r.number before h)
 
-  pub falls-later : before ≤ r.number → falling before l ≡ falling r.number rest
-  falls-later h = ap (falling before) e ∙ rw (le-ltb r.number before h)
+  pub falls_later : before ≤ r.number → falling before l ≡ falling r.number rest
+  falls_later h = ap (falling before) e ∙ rw (le-ltb r.number before h)
 
 -- Before the record at `i` of `rs`, after one of the number `before`: the numbers fall exactly if those that are left do.
 pub record Ordered (rs : List OptionRecord) (i before : ℕ) : Type 0 where
@@ -32,28 +32,28 @@ ordered_none rs = record { place = omega arith; order = refl }
 
 module _ (rs : List OptionRecord) (i before : ℕ) (w : Ordered rs i before) where
   -- At the end nothing is left that falls.
-  pub none-falls : length rs ≤ i → falling before (drop i rs) ≡ false
-  none-falls h = ap (falling before) (drop_of_length-le rs h)
+  pub none_falls : length rs ≤ i → falling before (drop i rs) ≡ false
+  none_falls h = ap (falling before) (drop_of_length-le rs h)
 
   pub sound : length rs ≤ i → falling 0 rs ≡ false
-  sound h = w.order ∙ none-falls h
+  sound h = w.order ∙ none_falls h
 
   module _ (x : OptionRecord) (e : drop i rs ≡ x ∷ drop (i + 1) rs) where
     -- A lower number falls.
     pub falls : x.number < before → falling 0 rs ≡ true
-    falls h = w.order ∙ falls-here before (drop i rs) x (drop (i + 1) rs) e h
+    falls h = w.order ∙ falls_here before (drop i rs) x (drop (i + 1) rs) e h
 
     -- After any other, those that are left decide.
     pub onwards : before ≤ x.number → falling before (drop i rs) ≡ falling x.number (drop (i + 1) rs)
-    onwards up = falls-later before (drop i rs) x (drop (i + 1) rs) e up
+    onwards up = falls_later before (drop i rs) x (drop (i + 1) rs) e up
 
-    pub ordered-more : before ≤ x.number → i < length rs → Ordered rs (i + 1) x.number
-    ordered-more up more = record { place = omega arith; order = w.order ∙ onwards up }
+    pub ordered_more : before ≤ x.number → i < length rs → Ordered rs (i + 1) x.number
+    ordered_more up more = record { place = omega arith; order = w.order ∙ onwards up }
 
 -- How the walk shows which it is.
 module _ (p : Packet) where
-  pub over-full : max_options < p.count → misordered p ≡ true
-  over-full h = rw (lt-ltb max_options p.count h) refl
+  pub over_full : max_options < p.count → misordered p ≡ true
+  over_full h = rw (lt-ltb max_options p.count h) refl
 
   module _ (few : p.count ≤ max_options) where
     pub unsound : falling 0 (records_of p) ≡ true → misordered p ≡ true

@@ -21,8 +21,8 @@ module _ (n : ℕ) (r : OptionRecord) (rs : List OptionRecord) where
   pub below_more : r.number < n → below n (r ∷ rs) ≡ suc (below n rs)
   below_more h = rw (lt-ltb r.number n h) refl
 
-  pub below-same : n ≤ r.number → below n (r ∷ rs) ≡ below n rs
-  below-same h = rw (le-ltb r.number n h) refl
+  pub below_same : n ≤ r.number → below n (r ∷ rs) ≡ below n rs
+  below_same h = rw (le-ltb r.number n h) refl
 
 -- Before the record at `i`: what is counted and what is left to count are all of a lower number than `n`.
 pub record Counts (rs : List OptionRecord) (n counted i : ℕ) : Type 0 where
@@ -36,11 +36,11 @@ module _ (rs : List OptionRecord) (n counted i : ℕ) (w : Counts rs n counted i
   pub counts_all : length rs ≤ i → counted ≡ below n rs
   counts_all h = omega (arith, w.all, ap (below n) (drop_of_length-le rs h))
 
-  pub counts-next : (x : OptionRecord) → drop i rs ≡ x ∷ drop (i + 1) rs → Counts rs n (counted + pick (ltb x.number n) 1 0) (i + 1)
-  counts-next x e =
+  pub counts_next : (x : OptionRecord) → drop i rs ≡ x ∷ drop (i + 1) rs → Counts rs n (counted + pick (ltb x.number n) 1 0) (i + 1)
+  counts_next x e =
       on_lt (λ (more : ℕ). Counts rs n (counted + more) (i + 1)) x.number n
       (λ h. record { few = omega (arith, w.few); all = omega (arith, w.all, ap (below n) e, below_more n x (drop (i + 1) rs) h) })
-      (λ h. record { few = omega (arith, w.few); all = omega (arith, w.all, ap (below n) e, below-same n x (drop (i + 1) rs) h) })
+      (λ h. record { few = omega (arith, w.few); all = omega (arith, w.all, ap (below n) e, below_same n x (drop (i + 1) rs) h) })
 
 -- The walk at the record `i`: the order, and the two counts.
 pub record Spanning (rs : List OptionRecord) (n low high i before : ℕ) : Type 0 where
@@ -50,8 +50,8 @@ pub record Spanning (rs : List OptionRecord) (n low high i before : ℕ) : Type 
 
 -- What the walk answers of a packet.
 module _ (p : Packet) (n : ℕ) where
-  pub spanned-not : misordered p ≡ true → Misordered ≡ span_in p n
-  spanned-not e = rw e refl
+  pub spanned_not : misordered p ≡ true → Misordered ≡ span_in p n
+  spanned_not e = rw e refl
 
   pub spanned : misordered p ≡ false → (low high : ℕ) → low ≡ below n (records_of p) → high ≡ below (n + 1) (records_of p)
       → Between low high ≡ span_in p n
@@ -64,15 +64,15 @@ pub record Spanned (p : Packet) (n low high : ℕ) : Type 0 where
   pub upper : high ≡ below (n + 1) (records_of p)
 
 module _ (p : Packet) (n : ℕ) where
-  pub from-misordered : Misordered ≡ span_in p n → misordered p ≡ true
-  from-misordered = go (misordered p)
+  pub from_misordered : Misordered ≡ span_in p n → misordered p ≡ true
+  from_misordered = go (misordered p)
     where
       go : (t : Bool) → Misordered ≡ pick t Misordered (Between (below n (records_of p)) (below (n + 1) (records_of p))) → t ≡ true
       go true e = refl
       go false e = cc
 
-  pub from-between : (low high : ℕ) → Between low high ≡ span_in p n → Spanned p n low high
-  from-between low high = go (misordered p) refl
+  pub from_between : (low high : ℕ) → Between low high ≡ span_in p n → Spanned p n low high
+  from_between low high = go (misordered p) refl
     where
       go : (t : Bool) → misordered p ≡ t → Between low high ≡ pick t Misordered (Between (below n (records_of p)) (below (n + 1) (records_of p))) → Spanned p n low high
       go true m e = absurd (let z : ◌≡◌ {A = ℕ} 0 1 = cc in omega arith)

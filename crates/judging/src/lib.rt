@@ -1,6 +1,7 @@
 // The judgement of a packet before it is written, checked or edited: whether it has a bad record, what its options take,
 // and where the records of a number stand.
 #![tactic(auto)]
+
 ghost use Rattle.std.specs.Prelude.{◌≡◌, ◌≤◌, ltb};
 ghost use Rattle.ground.specs.Choice.{pick, either};
 ghost use Rattle.packet.specs.Packet.{stores};

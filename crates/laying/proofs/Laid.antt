@@ -25,16 +25,16 @@ use Rattle.laying.proofs.Pieces.{option_length, payload_none, payload_some}
 
 module _ (a : Answer ℕ) (at : ℕ) (bytes old : List ℕ) where
   -- A refusal, with the output as it was.
-  pub lays-refused : (k : ℕ) (r : Written) → written r ≡ refused k → a ≡ refused k → Lays a at bytes old r old
-  lays-refused k r w e = record { answer = w ∙ sym e; output = rw e }
+  pub lays_refused : (k : ℕ) (r : Written) → written r ≡ refused k → a ≡ refused k → Lays a at bytes old r old
+  lays_refused k r w e = record { answer = w ∙ sym e; output = rw e }
 
   -- A length, with the bytes at their place.
-  pub lays-given : (n : ℕ) (new : List ℕ) → a ≡ given n → new ≡ sets old at bytes → Lays a at bytes old (Length n) new
-  lays-given n new e h = record { answer = sym e; output = rw e h }
+  pub lays_given : (n : ℕ) (new : List ℕ) → a ≡ given n → new ≡ sets old at bytes → Lays a at bytes old (Length n) new
+  lays_given n new e h = record { answer = sym e; output = rw e h }
 
   -- What is laid is put, and its length is answered.
-  pub lays-put : (r : Written) (n : ℕ) (new : List ℕ) → a ≡ given (length bytes) → Lays a at bytes old r new → written r ≡ given n → Put old at bytes (at + n) new
-  lays-put r n new e p w =
+  pub lays_put : (r : Written) (n : ℕ) (new : List ℕ) → a ≡ given (length bytes) → Lays a at bytes old r new → written r ≡ given n → Put old at bytes (at + n) new
+  lays_put r n new e p w =
       record {
         next = ap (λ (k : ℕ). at + k) (same_given (sym w ∙ (p.answer ∙ e)));
         out = rw e at p.output;
@@ -76,13 +76,13 @@ laid_judged before o room at = rw (option_length before o)
 
 -- The room decides where the number doesn't fall and the value isn't too long.
 module _ (before number len room at : ℕ) (n : before ≤ number) (l : len ≤ 65804) where
-  pub judged-full : room < at + size_of (number - before) len → judged_option before number len room at ≡ refused 12
+  pub judged_full : room < at + size_of (number - before) len → judged_option before number len room at ≡ refused 12
   unfolding judged_option
-  judged-full h = rw (le-ltb number before n, le-ltb 65804 len l, lt-ltb room (at + size_of (number - before) len) h)
+  judged_full h = rw (le-ltb number before n, le-ltb 65804 len l, lt-ltb room (at + size_of (number - before) len) h)
 
-  pub judged-fits : at + size_of (number - before) len ≤ room → judged_option before number len room at ≡ given (size_of (number - before) len)
+  pub judged_fits : at + size_of (number - before) len ≤ room → judged_option before number len room at ≡ given (size_of (number - before) len)
   unfolding judged_option
-  judged-fits h = rw (le-ltb number before n, le-ltb 65804 len l, le-ltb room (at + size_of (number - before) len) h)
+  judged_fits h = rw (le-ltb number before n, le-ltb 65804 len l, le-ltb room (at + size_of (number - before) len) h)
 
 -- What a length says of an option's numbers.
 pub record Judged (before number len room at n : ℕ) : Type 0 where
@@ -109,23 +109,23 @@ head_put h token old mid new r v t room e p =
     let is : raw ≡ header_layout (headed h token) = header_layout_lem h token [] [] v t in
     let first : Put old 0 raw 4 mid = record { next = refl; out = e ∙ sym (put_fits old raw _ _ refl (omega arith) refl).1 } in
     let all = put_put _ _ _ _ _ _ _ _ (rw is at first) (puts_whole p (omega (arith, put_length _ _ _ _ _ first))) in
-    lays-given _ 0 _ old r new (header_laid h token (length old) v t (omega (arith, head_length h token)) ∙ ap given (sym (all.next ∙ zero-add _))) all.out
+    lays_given _ 0 _ old r new (header_laid h token (length old) v t (omega (arith, head_length h token)) ∙ ap given (sym (all.next ∙ zero-add _))) all.out
 
 -- A payload: none, one that has no room, and one after its marker.
 module _ (payload old : List ℕ) (at : ℕ) where
-  pub payload-absent : at ≤ length old → length payload ≡ 0 → LaysPayload payload at old (Length 0) old
-  payload-absent h e =
-      rw (payload_none payload e) (lays-given _ at [] old 0 old (laid_room (length old) at [] (omega arith)) refl)
+  pub payload_absent : at ≤ length old → length payload ≡ 0 → LaysPayload payload at old (Length 0) old
+  payload_absent h e =
+      rw (payload_none payload e) (lays_given _ at [] old 0 old (laid_room (length old) at [] (omega arith)) refl)
 
-  pub payload-past : length old < at → LaysPayload payload at old (Refused NoRoom) old
-  payload-past h = lays-refused _ at _ old 12 _ refl (laid_full (length old) at (payload_layout payload) (omega arith))
+  pub payload_past : length old < at → LaysPayload payload at old (Refused NoRoom) old
+  payload_past h = lays_refused _ at _ old 12 _ refl (laid_full (length old) at (payload_layout payload) (omega arith))
 
   module _ (some : length payload ≡ 0 → ⊥) where
-    pub payload-full : length old - at ≤ length payload → LaysPayload payload at old (Refused NoRoom) old
-    payload-full h =
-        lays-refused _ at _ old 12 _ refl (laid_full (length old) at (payload_layout payload) (omega (arith, ap length (payload_some payload some))))
+    pub payload_full : length old - at ≤ length payload → LaysPayload payload at old (Refused NoRoom) old
+    payload_full h =
+        lays_refused _ at _ old 12 _ refl (laid_full (length old) at (payload_layout payload) (omega (arith, ap length (payload_some payload some))))
 
-    pub payload-put : (new : List ℕ) (r : ℕ) → at < length old → length payload < length old - at → Puts (set old at 255) (at + 1) payload r new → LaysPayload payload at old (Length (r - at)) new
-    payload-put new r h room p =
+    pub payload_put : (new : List ℕ) (r : ℕ) → at < length old → length payload < length old - at → Puts (set old at 255) (at + 1) payload r new → LaysPayload payload at old (Length (r - at)) new
+    payload_put new r h room p =
         let all = put_put _ _ _ (255 ∷ []) _ _ _ _ (put_one old at 255) (puts_whole p (omega (arith, length-set old at 255))) in
-        rw (payload_some payload some) (lays-given _ at (255 ∷ payload) old (r - at) new (laid_room (length old) at (255 ∷ payload) (omega arith) ∙ ap given (omega (arith, all.next))) all.out)
+        rw (payload_some payload some) (lays_given _ at (255 ∷ payload) old (r - at) new (laid_room (length old) at (255 ∷ payload) (omega arith) ∙ ap given (omega (arith, all.next))) all.out)

@@ -12,7 +12,7 @@ use Rattle.ground.specs.Choice.{both}
 use Rattle.ground.proofs.Choice.{on_lt}
 use Rattle.judging.specs.Judge.{extension_size}
 use Rattle.rfc.specs.Message.{Opt, nibble_of, extension_of, option_layout, options_layout, payload_layout, header_layout, layout}
-use Rattle.rfc.proofs.Message.{nibble-none, extension-none}
+use Rattle.rfc.proofs.Message.{nibble_none, extension_none}
 use Rattle.class.specs.Class.{byte_of}
 use Rattle.header.specs.Header.{number_of_type}
 use Rattle.header.specs.declared.Header.{Header}
@@ -39,15 +39,15 @@ option_length before o = simp length-append (omega arith)
 
 -- A short option: one byte before its value.
 module _ (delta : ℕ) (value : List ℕ) (d : delta < 13) (n : length value < 13) where
-  option-short : option_layout 0 (record { number = delta; value = value }) ≡ (delta * 16 + length value) ∷ value
+  option_short : option_layout 0 (record { number = delta; value = value }) ≡ (delta * 16 + length value) ∷ value
   unfolding option_layout
-  option-short =
-      rw (sub-zero delta, nibble-none delta d, nibble-none (length value) n, extension-none delta d, extension-none (length value) n)
+  option_short =
+      rw (sub-zero delta, nibble_none delta d, nibble_none (length value) n, extension_none delta d, extension_none (length value) n)
 
-  pub short-put : (l m : List ℕ) (at r : ℕ) → at + size_of delta (length value) ≤ length l → Puts (set l at (delta * 16 + length value)) (at + 1) value r m
+  pub short_put : (l m : List ℕ) (at r : ℕ) → at + size_of delta (length value) ≤ length l → Puts (set l at (delta * 16 + length value)) (at + 1) value r m
       → Put l at (option_layout 0 (record { number = delta; value = value })) r m
-  short-put l m at r h p =
-      rw option-short
+  short_put l m at r h p =
+      rw option_short
       (put_put _ _ _ ((delta * 16 + length value) ∷ []) _ _ _ _ (put_one l at (delta * 16 + length value)) (puts_whole p (omega (arith, length-set l at (delta * 16 + length value)))))
 
 pub both_short : (delta len : ℕ) → both (ltb delta 13) (ltb len 13) ≡ true → (delta < 13) × (len < 13)
@@ -55,7 +55,7 @@ both_short delta len =
     on_lt (λ (t : Bool). t ≡ true → (delta < 13) × (len < 13)) delta 13 (λ h e. (h, ltb-true len 13 e)) (λ h e. absurd (let z : ◌≡◌ {A = ℕ} 0 1 = cc in omega arith))
 
 pub short_size : (delta len : ℕ) → delta < 13 → len < 13 → size_of delta len ≡ 1 + len
-short_size delta len d n = rw (extension-none delta d, extension-none len n)
+short_size delta len d n = rw (extension_none delta d, extension_none len n)
 
 -- An option is laid by its delta alone.
 pub option_delta : (before number : ℕ) (value : List ℕ) → option_layout 0 (record { number = number - before; value = value }) ≡ option_layout before (record { number = number; value = value })

@@ -1,6 +1,7 @@
 // The pieces of a message put into a lent output: the header with its token, an option, the payload. Each function judges and
 // counts before it puts a byte, so that a refused piece changes nothing.
 #![tactic(auto)]
+
 ghost use Rattle.std.specs.Prelude.{◌≡◌, ◌+◌, ◌≤◌, length, ltb};
 ghost use Rattle.ground.specs.Choice.{both};
 ghost use Rattle.rfc.specs.Message.{nibble_of, extension_of, option_layout};

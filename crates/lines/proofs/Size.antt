@@ -25,15 +25,15 @@ payload_size [] = omega arith
 payload_size (b ∷ bytes) = omega arith
 
 module _ (end : ℕ) where
-  pub bytes-line-size : (word bytes : List ℕ) → length (bytes_line end word bytes) ≤ length word + 2 * length bytes + 2
-  bytes-line-size word bytes = simp length-append (omega (arith, hex_size bytes))
+  pub bytes_line_size : (word bytes : List ℕ) → length (bytes_line end word bytes) ≤ length word + 2 * length bytes + 2
+  bytes_line_size word bytes = simp length-append (omega (arith, hex_size bytes))
 
-  pub option-line-size : (number : ℕ) (value : List ℕ) → length (option_line end number value) ≤ 2 * length value + 30
-  option-line-size number value =
-      omega (arith, length-append (numbered option number) (bytes_line end space value), length-append option (decimal number), decimal_size 20 number, bytes-line-size space value)
+  pub option_line_size : (number : ℕ) (value : List ℕ) → length (option_line end number value) ≤ 2 * length value + 30
+  option_line_size number value =
+      omega (arith, length-append (numbered option number) (bytes_line end space value), length-append option (decimal number), decimal_size 20 number, bytes_line_size space value)
 
-  pub header-line-size : (version type code id : ℕ) → length (head_line end version type code id) ≤ 73
-  header-line-size version type code id =
+  pub header_line_size : (version type code id : ℕ) → length (head_line end version type code id) ≤ 73
+  header_line_size version type code id =
       let first : List ℕ = numbered head version ++ numbered space type in
       let code-text : List ℕ = space ++ code_text code in
       omega (
@@ -47,20 +47,20 @@ module _ (end : ℕ) where
         decimal_size 20 id,
       )
 
-  pub refusal-line-size : (k : ℕ) → length (refusal_line end k) ≤ 29
-  refusal-line-size k = omega (arith, length-append (numbered refusal k) (end ∷ []), decimal_size 20 k)
+  pub refusal_line_size : (k : ℕ) → length (refusal_line end k) ≤ 29
+  refusal_line_size k = omega (arith, length-append (numbered refusal k) (end ∷ []), decimal_size 20 k)
 
   -- A line is at most twice as long as its option's bytes, and 28 more.
-  pub option-lines-size : (before : ℕ) (os : List Opt) → length (option_lines end os) ≤ 2 * length (options_layout before os) + 28 * length os
-  option-lines-size before [] = omega arith
-  option-lines-size before (o ∷ os) =
+  pub option_lines_size : (before : ℕ) (os : List Opt) → length (option_lines end os) ≤ 2 * length (options_layout before os) + 28 * length os
+  option_lines_size before [] = omega arith
+  option_lines_size before (o ∷ os) =
       omega (
         arith,
         length-append (option_line end o.number o.value) (option_lines end os),
         length-append (option_layout before o) (options_layout o.number os),
-        option-line-size o.number o.value,
+        option_line_size o.number o.value,
         layout_size before o,
-        option-lines-size o.number os,
+        option_lines_size o.number os,
       )
 
   -- The lines of a message are at most twice as long as its layout, and a little for each line.
@@ -75,10 +75,10 @@ module _ (end : ℕ) where
         length-append (head-line ++ token-line ++ options) (bytes_line end payload m.payload),
         length-append (head-line ++ token-line) options,
         length-append head-line token-line,
-        header-line-size m.version m.type m.code m.id,
-        bytes-line-size token m.token,
-        bytes-line-size payload m.payload,
-        option-lines-size 0 m.options,
+        header_line_size m.version m.type m.code m.id,
+        bytes_line_size token m.token,
+        bytes_line_size payload m.payload,
+        option_lines_size 0 m.options,
         length-append m.token (options_layout 0 m.options ++ payload_layout m.payload),
         length-append (options_layout 0 m.options) (payload_layout m.payload),
         payload_size m.payload,

@@ -1,5 +1,6 @@
 // The lines of a message, or of the refusal that took its place. Each ends with a byte that the caller names.
 #![tactic(auto)]
+
 ghost use Rattle.std.specs.Prelude.{[], ◌++◌};
 ghost use Rattle.refusal.specs.Answer.{outcome};
 ghost use Rattle.refusal.specs.Number.{number_of};

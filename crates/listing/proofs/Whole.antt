@@ -19,7 +19,7 @@ use Rattle.io.specs.Counts.{IsPrefixLen}
 use Rattle.io.proofs.Counting.{prefix_len_of_le}
 use Rattle.placing.specs.Put.{Puts}
 use Rattle.placing.proofs.Puts.{puts_within, puts_front}
-use Rattle.lines.proofs.Size.{message_size_lem, refusal-line-size}
+use Rattle.lines.proofs.Size.{message_size_lem, refusal_line_size}
 use Rattle.listing.specs.Listing.{newline, answer, listing}
 
 -- The lines of an answer to a datagram of at most 65,535 bytes.
@@ -27,12 +27,12 @@ answer_size : (s : List ℕ) → length s ≤ 65535 → (a : Answer Packet)
     → Given (λ (p : Packet). (edits : List ℕ) → WellFormed (meaning (stores s edits) p) × (layout (meaning (stores s edits) p) ≡ s)) a
     → length (answer s (beside new_packet a)) ≤ 135000
 answer_size s h (given p) g = omega (arith, message_size_lem newline (meaning (stores s []) p), (g []).0.count, ap length (g []).1)
-answer_size s h (refused k) g = omega (arith, refusal-line-size newline k)
+answer_size s h (refused k) g = omega (arith, refusal_line_size newline k)
 
 pub listing_size : (s : List ℕ) → Bytes s → length (listing s) ≤ 135000
 unfolding listing
 listing_size s b =
-    on_lt (λ (l : List ℕ). length l ≤ 135000) 65535 (length s) (λ h. omega (arith, refusal-line-size newline 10))
+    on_lt (λ (l : List ℕ). length l ≤ 135000) 65535 (length s) (λ h. omega (arith, refusal_line_size newline 10))
     (λ h. answer_size s h (reading true s) (accepted s b))
 
 -- What `list` promises, from what putting the listing leaves.

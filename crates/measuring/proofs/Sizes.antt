@@ -23,13 +23,13 @@ four strict p = omega arith
 
 -- A packet over stores that aren't too long is bad, or is judged by strict mode, limit and room.
 module _ (strict : Bool) (limit : Limit) (room : ℕ) (lengths : Lengths) (p : Packet) (h : is_too_long lengths ≡ false) where
-  pub measured-bad : bad_packet lengths p ≡ true → measured strict limit room lengths p ≡ refused 11
+  pub measured_bad : bad_packet lengths p ≡ true → measured strict limit room lengths p ≡ refused 11
   unfolding measured
-  measured-bad e = rw (h, e)
+  measured_bad e = rw (h, e)
 
-  pub measured-good : bad_packet lengths p ≡ false → measured strict limit room lengths p ≡ sized strict limit room p
+  pub measured_good : bad_packet lengths p ≡ false → measured strict limit room lengths p ≡ sized strict limit room p
   unfolding measured
-  measured-good e = rw (h, e)
+  measured_good e = rw (h, e)
 
 -- What a length says: the packet is good, the length is the size of the bytes, and there is room for it.
 pub record Fits (strict : Bool) (room : ℕ) (lengths : Lengths) (p : Packet) (n : ℕ) : Type 0 where
@@ -53,5 +53,5 @@ module _ (strict : Bool) (limit : Limit) (room : ℕ) (lengths : Lengths) (p : P
       all (given v) = tt
       all (refused k) = tt
 
-  pub measured-fits : (n : ℕ) → measured strict limit room lengths p ≡ given n → Fits strict room lengths p n
-  measured-fits n e = on_given (Fits strict room lengths p) (measured strict limit room lengths p) n fits e
+  pub measured_fits : (n : ℕ) → measured strict limit room lengths p ≡ given n → Fits strict room lengths p n
+  measured_fits n e = on_given (Fits strict room lengths p) (measured strict limit room lengths p) n fits e

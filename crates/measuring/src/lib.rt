@@ -1,5 +1,6 @@
 // What a packet answers when it is written, plain and strict, before a byte is: the refusals, or how many bytes it takes.
 #![tactic(auto)]
+
 ghost use Rattle.std.specs.Prelude.{◌≡◌, ◌+◌, ◌*◌, ◌≤◌};
 ghost use Rattle.refusal.specs.Answer.{written, outcome};
 ghost use Rattle.packet.specs.Limits.{max_options, max_value};

@@ -1,5 +1,6 @@
 // Bytes moved within the slice that they are in.
 #![tactic(auto)]
+
 ghost use Rattle.std.specs.Prelude.{◌≡◌, ◌-◌, min};
 ghost use Rattle.ground.specs.Part.{part};
 ghost use Rattle.placing.specs.Put.{Put};

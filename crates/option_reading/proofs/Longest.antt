@@ -29,9 +29,9 @@ onward_alike f g cap (refused k) h = tt
 
 -- Numbers below 269 have at most one byte of extension, which nothing caps.
 module _ (longest most : ℕ) (wide : 268 ≤ most) (s : List ℕ) (b : Bytes s) where
-  extended-capped : (over at nibble : ℕ) → Given (λ (v : Value). extended over most s at nibble ≡ capped over most v) (extended over longest s at nibble)
+  extended_capped : (over at nibble : ℕ) → Given (λ (v : Value). extended over most s at nibble ≡ capped over most v) (extended over longest s at nibble)
   unfolding extended
-  extended-capped over at nibble =
+  extended_capped over at nibble =
       let P : Answer Value → Type 0 = Given (λ (v : Value). extended over most s at nibble ≡ capped over most v) in
       let one = 13 + get_or s at 0 in
       let two = 269 + (get_or s at 0 * 256 + get_or s (at + 1) 0) in
@@ -46,22 +46,22 @@ module _ (longest most : ℕ) (wide : 268 ≤ most) (s : List ℕ) (b : Bytes s)
       (by_lt most two (λ h. rw (lt-ltb most two h, lt-leb two most h) refl) (λ h. rw (le-ltb most two h, le-leb two most h) refl)))))
       (λ f. tt)))
 
-  length-capped : (number at nibble : ℕ) → Given (λ (p : Place). length_at most s number at nibble ≡ capped_place most p) (length_at longest s number at nibble)
+  length_capped : (number at nibble : ℕ) → Given (λ (p : Place). length_at most s number at nibble ≡ capped_place most p) (length_at longest s number at nibble)
   unfolding length_at value_at
-  length-capped number at nibble =
+  length_capped number at nibble =
       let P : Answer Place → Type 0 = Given (λ (p : Place). length_at most s number at nibble ≡ capped_place most p) in
       given_onward (λ (v : Value). extended 4 most s at nibble ≡ capped 4 most v) (λ (p : Place). length_at most s number at nibble ≡ capped_place most p) (extended 4 longest s at nibble) _
-      (extended-capped 4 at nibble)
+      (extended_capped 4 at nibble)
       (λ v e. on_lt P 65535 number (λ l. tt)
       (λ l. on_lt P (length s - v.next) v.value (λ r. tt)
       (λ r. rw e (by_lt most v.value (λ h. rw (lt-leb v.value most h) refl)
       (λ h. rw (le-leb v.value most h, le-ltb 65535 number l, le-ltb (length s - v.next) v.value r) refl)))))
 
-  pub place-capped : (before at : ℕ) → Given (λ (p : Place). place_at most s before at ≡ capped_place most p) (place_at longest s before at)
+  pub place_capped : (before at : ℕ) → Given (λ (p : Place). place_at most s before at ≡ capped_place most p) (place_at longest s before at)
   unfolding place_at option_at
-  place-capped before at =
+  place_capped before at =
       let P : Answer Place → Type 0 = Given (λ (p : Place). place_at most s before at ≡ capped_place most p) in
       on_le P (length s) at (λ l. rw (le-leb (length s) at l) refl)
       (λ l. on_eq P (get_or s at 0) 255 (λ e. rw (lt-leb (length s) at l, eq-eqb (get_or s at 0) 255 e) refl)
       (λ e. rw (lt-leb (length s) at l, ne_eqb (get_or s at 0) 255 e)
-      (onward_alike _ _ (capped_place most) (extended 3 65535 s (at + 1) (get_or s at 0 / 16)) (λ delta. length-capped (before + delta.value) delta.next (get_or s at 0 % 16)))))
+      (onward_alike _ _ (capped_place most) (extended 3 65535 s (at + 1) (get_or s at 0 / 16)) (λ delta. length_capped (before + delta.value) delta.next (get_or s at 0 % 16)))))

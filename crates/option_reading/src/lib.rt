@@ -1,5 +1,6 @@
 // Reading one option of a datagram: nibbles, extensions, the value, the order of refusals (the loop of packet.rs's from_bytes).
 #![tactic(auto)]
+
 ghost use Rattle.std.specs.Prelude.{◌≡◌, ◌≤◌, ◌<◌, length};
 ghost use Rattle.refusal.specs.Number.{number_of};
 ghost use Rattle.option_reading.specs.Answers.{ByteAt, extended_of, found_of};

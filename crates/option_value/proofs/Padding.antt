@@ -38,17 +38,17 @@ zeros_read (suc z) bs = zeros_read z bs
 
 module _ {width : ℕ} {bs : List ℕ} where
   -- The length is the count and the shortest length.
-  pub pads-length : {p : Padded ℕ} → Pads width bs p → length bs ≡ p.zeros + length (uint width p.value)
-  pads-length {p} h = ap length h.bytes ∙ simp (length-append, length-replicate)
+  pub pads_length : {p : Padded ℕ} → Pads width bs p → length bs ≡ p.zeros + length (uint width p.value)
+  pads_length {p} h = ap length h.bytes ∙ simp (length-append, length-replicate)
 
-  pads-number : {p : Padded ℕ} → Pads width bs p → p.value ≡ number bs
-  pads-number {p} h =
+  pads_number : {p : Padded ℕ} → Pads width bs p → p.value ≡ number bs
+  pads_number {p} h =
       sym (ap number h.bytes ∙ (zeros_read p.zeros (uint width p.value) ∙ written_read width p.value h.room))
 
   -- It holds of one number and one count only.
-  pub one-pads : {p q : Padded ℕ} → Pads width bs p → Pads width bs q → p ≡ q
-  one-pads {p} {q} h k =
-      let v : p.value ≡ q.value = pads-number h ∙ sym (pads-number k) in
+  pub one_pads : {p q : Padded ℕ} → Pads width bs p → Pads width bs q → p ≡ q
+  one_pads {p} {q} h k =
+      let v : p.value ≡ q.value = pads_number h ∙ sym (pads_number k) in
       let l : length (uint width p.value) ≡ length (uint width q.value) = ap (λ (n : ℕ). length (uint width n)) v in
-      let z : p.zeros ≡ q.zeros = omega (arith, pads-length h, pads-length k) in
+      let z : p.zeros ≡ q.zeros = omega (arith, pads_length h, pads_length k) in
       λ i. with_zeros (z i) (v i)

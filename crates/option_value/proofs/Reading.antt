@@ -11,7 +11,7 @@ use lib.Seq.{drop-cons}
 use Rattle.ground.specs.Part.{Bytes}
 use Rattle.rfc.specs.Uint.{number, number_from, uint}
 use Rattle.option_value.specs.Uint.{Padded, with_zeros, leading_zeros, padded}
-use Rattle.option_value.proofs.Padding.{pads, pads-length}
+use Rattle.option_value.proofs.Padding.{pads, pads_length}
 
 -- The first `i` bytes make `value`; with the rest they make the number.
 pub record Reading (bs : List ℕ) (value i : ℕ) : Type 0 where
@@ -45,6 +45,6 @@ pub reading_end : {bs : List ℕ} {value i count : ℕ} → Bytes bs → length 
 reading_end {bs} {value} {i} {count} b w h s e =
     let v : value ≡ number bs = rw (drop_of_length-le bs h) at s.all in
     let c : count ≡ length (uint 8 (number bs)) = e ∙ ap (λ (n : ℕ). length (uint 8 n)) v in
-    let l : length bs ≡ leading_zeros bs + length (uint 8 (number bs)) = pads-length (pads 8 bs b w) in
+    let l : length bs ≡ leading_zeros bs + length (uint 8 (number bs)) = pads_length (pads 8 bs b w) in
     let z : length bs - count ≡ leading_zeros bs = omega arith in
     record { fits = omega arith; read = λ j. with_zeros (z j) (v j) }

@@ -20,7 +20,7 @@ use Rattle.refusal.proofs.Fitted.{front_after}
 use Rattle.option_value.specs.Uint.{Padded, with_zeros, padded, read_uint, ReadsUint, Pads, uint_of}
 use Rattle.option_value.specs.declared.Uint.{Uint}
 use Rattle.option_value.specs.declared.Uint.TheVariants.{Number}
-use Rattle.option_value.proofs.Padding.{pads, one-pads}
+use Rattle.option_value.proofs.Padding.{pads, one_pads}
 
 -- More bytes than the width are refused.
 pub read_over : (width : ℕ) (bs : List ℕ) → width < length bs → read_uint width bs ≡ refused 13
@@ -57,7 +57,7 @@ read_pads width p bs b e =
 pub pads_read : (width : ℕ) (p : Padded ℕ) (bs : List ℕ) → Bytes bs → Pads (min width 8) bs p → read_uint width bs ≡ given p
 pads_read width p bs b h =
     read_within width bs (le_trans h.short (min-le_left width 8)) (le_trans h.short (min-le_right width 8))
-    ∙ ap given (one-pads (pads (min width 8) bs b h.short) h)
+    ∙ ap given (one_pads (pads (min width 8) bs b h.short) h)
 
 -- A number read has room in its width.
 pub read_room : (width : ℕ) (p : Padded ℕ) (bs : List ℕ) → Bytes bs → read_uint width bs ≡ given p → p.value < 256 ^ width
@@ -75,7 +75,7 @@ written_then_read width n w h =
     let short : length (uint width n) ≤ width = length_uint width n in
     read_within width (uint width n) short (omega arith)
     ∙ ap given
-    (one-pads (pads width (uint width n) (bytes_uint width n) short)
+    (one_pads (pads width (uint width n) (bytes_uint width n) short)
     (record { short = short; room = h; bytes = refl }))
 
 -- So it is with the part of an output that was written.

@@ -1,5 +1,6 @@
 // Convenience types for option values: uints of four widths, and text.
 #![tactic(auto)]
+
 ghost use Rattle.std.specs.Prelude.{◌≡◌, length};
 ghost use Rattle.rfc.specs.Uint.{uint};
 ghost use Rattle.refusal.specs.Answer.{written, fitted, after};

@@ -1,6 +1,7 @@
 // The output, which is written as it fills, and what is said where reading or writing fails. Where writing fails the place is NOWHERE from then on: nothing is put there, and
 // nothing more is written, so that the last line of an output is there only where all of it is.
 #![tactic(auto)]
+
 use libc::STDOUT_FILENO;
 use words::{NOWHERE, part};
 

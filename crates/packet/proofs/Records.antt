@@ -29,9 +29,9 @@ module _ (os : List OptionRecord) (count i : ℕ) (h : i < length (take count os
       rw (add-one, drop-cons (take count os) i none h, get_or-take count os i none inside)
 
   -- Those of a number begin with it where it is one of them, and else are those that are left after it.
-  pub left-of : (n : ℕ) → (get_or os i none).number ≡ n
+  pub left_of : (n : ℕ) → (get_or os i none).number ≡ n
       → of_number n (drop i (take count os)) ≡ get_or os i none ∷ of_number n (drop (i + 1) (take count os))
-  left-of n e = ap (of_number n) left ∙ first_of n (get_or os i none) (drop (i + 1) (take count os)) e
+  left_of n e = ap (of_number n) left ∙ first_of n (get_or os i none) (drop (i + 1) (take count os)) e
 
   pub left_not : (n : ℕ) → ((get_or os i none).number ≡ n → ⊥)
       → of_number n (drop i (take count os)) ≡ of_number n (drop (i + 1) (take count os))

@@ -1,6 +1,7 @@
 // A packet: a header, and the token, option values and payload as ranges of two lent stores of bytes, the datagram and the
 // edit store (packet.rs).
 #![tactic(auto)]
+
 ghost use Rattle.std.specs.Prelude.{◌≡◌, length, get_or, ltb};
 ghost use Rattle.packet.specs.Packet.{new_packet, none, chosen, stores, bytes_in, place_in, bytes_of, place_of, range_of, value_of, records_of, of_number, number_at};
 

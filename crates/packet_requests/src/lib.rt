@@ -1,5 +1,6 @@
 // Requests on whole packets: reading, writing and the check by the register.
 #![tactic(auto)]
+
 mod checking;
 mod limits;
 mod reading_packets;

@@ -1,5 +1,6 @@
 // Packets as words, both ways.
 #![tactic(auto)]
+
 mod homes;
 mod read;
 mod shown;

@@ -2,6 +2,7 @@
 // convert them. A message has at most 1,396 bytes, so the window always holds the next one whole, and nothing else bounds the
 // stream. Refusals are those of the whole stream: 19 of any message before the first bad datagram's own.
 #![tactic(auto)]
+
 mod messages;
 
 use messages::take_messages;

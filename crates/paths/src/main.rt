@@ -1,6 +1,7 @@
 // Shows what the paths and queries of coap URIs become: reads one text to a line on standard input, and writes the records of
 // each, their bytes on the wire, and the text that these give back, to standard output.
 #![tactic(auto)]
+
 ghost use Rattle.std.specs.Prelude.{◌<◌, ◌≤◌, length};
 
 use libc::STDIN_FILENO;

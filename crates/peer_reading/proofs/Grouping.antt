@@ -26,13 +26,13 @@ pub record Judging (s : List ℕ) (digits i : ℕ) : Type 0 where
   pub all : are_groups digits (drop i s) ≡ are_groups 0 s
 
 module _ (s : List ℕ) where
-  pub no-groups : length s ≡ 0 → true ≡ is_side s
+  pub no_groups : length s ≡ 0 → true ≡ is_side s
   unfolding is_side
-  no-groups e = rw (eq-eqb (length s) 0 e) refl
+  no_groups e = rw (eq-eqb (length s) 0 e) refl
 
-  pub some-groups : (length s ≡ 0 → ⊥) → (b : Bool) → b ≡ are_groups 0 s → b ≡ is_side s
+  pub some_groups : (length s ≡ 0 → ⊥) → (b : Bool) → b ≡ are_groups 0 s → b ≡ is_side s
   unfolding is_side
-  some-groups z b e = rw (ne_eqb (length s) 0 z) e
+  some_groups z b e = rw (ne_eqb (length s) 0 z) e
 
   pub judging_start : Judging s 0 0
   judging_start = record { place = omega arith; few = omega arith; all = refl }
@@ -46,9 +46,9 @@ module _ (s : List ℕ) where
       step : are_groups digits (get_or s i 0 ∷ drop (i + 1) s) ≡ are_groups 0 s
       step = ap (are_groups digits) (sym (here s i h)) ∙ w.all
 
-      pub no-digit-before : get_or s i 0 ≡ 58 → digits ≡ 0 → false ≡ are_groups 0 s
+      pub no_digit_before : get_or s i 0 ≡ 58 → digits ≡ 0 → false ≡ are_groups 0 s
       unfolding are_groups
-      no-digit-before c z = rw (eq-eqb (get_or s i 0) 58 c, eq-eqb digits 0 z) at step
+      no_digit_before c z = rw (eq-eqb (get_or s i 0) 58 c, eq-eqb digits 0 z) at step
 
       pub colon : get_or s i 0 ≡ 58 → (digits ≡ 0 → ⊥) → Judging s 0 (i + 1)
       unfolding are_groups
@@ -59,9 +59,9 @@ module _ (s : List ℕ) where
         unfolding are_groups
         no_digit d = rw (ne_eqb (get_or s i 0) 58 c, lt-ltb 15 (hex_value (get_or s i 0)) d) at step
 
-        pub fifth-digit : hex_value (get_or s i 0) ≤ 15 → 3 < digits → false ≡ are_groups 0 s
+        pub fifth_digit : hex_value (get_or s i 0) ≤ 15 → 3 < digits → false ≡ are_groups 0 s
         unfolding are_groups
-        fifth-digit d m = rw (ne_eqb (get_or s i 0) 58 c, le-ltb 15 (hex_value (get_or s i 0)) d, lt-ltb 3 digits m) at step
+        fifth_digit d m = rw (ne_eqb (get_or s i 0) 58 c, le-ltb 15 (hex_value (get_or s i 0)) d, lt-ltb 3 digits m) at step
 
         pub digit : hex_value (get_or s i 0) ≤ 15 → digits ≤ 3 → Judging s (digits + 1) (i + 1)
         unfolding are_groups
@@ -70,26 +70,26 @@ module _ (s : List ℕ) where
 
 -- Putting: a colon puts the group before it, a digit is one more of its value, the end puts the last.
 module _ (s : List ℕ) where
-  pub side-none : length s ≡ 0 → side_bytes s ≡ []
+  pub side_none : length s ≡ 0 → side_bytes s ≡ []
   unfolding side_bytes
-  side-none e = rw (eq-eqb (length s) 0 e) refl
+  side_none e = rw (eq-eqb (length s) 0 e) refl
 
-  pub side-some : (length s ≡ 0 → ⊥) → side_bytes s ≡ group_bytes 0 s
+  pub side_some : (length s ≡ 0 → ⊥) → side_bytes s ≡ group_bytes 0 s
   unfolding side_bytes
-  side-some z = rw (ne_eqb (length s) 0 z) refl
+  side_some z = rw (ne_eqb (length s) 0 z) refl
 
   module _ (value i : ℕ) where
-    pub bytes-colon : i < length s → get_or s i 0 ≡ 58 → group_bytes value (drop i s) ≡ pair_bytes value ++ group_bytes 0 (drop (i + 1) s)
+    pub bytes_colon : i < length s → get_or s i 0 ≡ 58 → group_bytes value (drop i s) ≡ pair_bytes value ++ group_bytes 0 (drop (i + 1) s)
     unfolding group_bytes
-    bytes-colon h c = rw (here s i h, eq-eqb (get_or s i 0) 58 c) refl
+    bytes_colon h c = rw (here s i h, eq-eqb (get_or s i 0) 58 c) refl
 
-    pub bytes-digit : i < length s → (get_or s i 0 ≡ 58 → ⊥) → group_bytes value (drop i s) ≡ group_bytes (value % 4096 * 16 + hex_value (get_or s i 0)) (drop (i + 1) s)
+    pub bytes_digit : i < length s → (get_or s i 0 ≡ 58 → ⊥) → group_bytes value (drop i s) ≡ group_bytes (value % 4096 * 16 + hex_value (get_or s i 0)) (drop (i + 1) s)
     unfolding group_bytes
-    bytes-digit h c = rw (here s i h, ne_eqb (get_or s i 0) 58 c) refl
+    bytes_digit h c = rw (here s i h, ne_eqb (get_or s i 0) 58 c) refl
 
-    pub bytes-end : length s ≤ i → group_bytes value (drop i s) ≡ pair_bytes value
+    pub bytes_end : length s ≤ i → group_bytes value (drop i s) ≡ pair_bytes value
     unfolding group_bytes
-    bytes-end h = rw (drop_of_length-le s h) refl
+    bytes_end h = rw (drop_of_length-le s h) refl
 
 -- Two colons at a place, by their tests.
 module _ (s : List ℕ) (i : ℕ) where
@@ -110,15 +110,15 @@ module _ (s : List ℕ) (i : ℕ) where
       let e : get_or (drop (i + 1) s) 0 0 ≡ get_or s (i + 1) 0 = get_or-drop (i + 1) s 0 0 ∙ ap (λ (n : ℕ). get_or s n 0) (add-zero (i + 1)) in
       rw (here s i h, e) refl
 
-  pub gap-found : i < length s → both (eqb (get_or s i 0) 58) (eqb (get_or s (i + 1) 0) 58) ≡ true → gap_in (drop i s) ≡ 0
-  gap-found h e = gap_here h ∙ (rw e refl)
+  pub gap_found : i < length s → both (eqb (get_or s i 0) 58) (eqb (get_or s (i + 1) 0) 58) ≡ true → gap_in (drop i s) ≡ 0
+  gap_found h e = gap_here h ∙ (rw e refl)
 
-  pub gap-later : i < length s → both (eqb (get_or s i 0) 58) (eqb (get_or s (i + 1) 0) 58) ≡ false → gap_in (drop i s) ≡ gap_in (drop (i + 1) s) + 1
-  gap-later h e = gap_here h ∙ (rw e refl)
+  pub gap_later : i < length s → both (eqb (get_or s i 0) 58) (eqb (get_or s (i + 1) 0) 58) ≡ false → gap_in (drop i s) ≡ gap_in (drop (i + 1) s) + 1
+  gap_later h e = gap_here h ∙ (rw e refl)
 
-  pub gap-end : length s ≤ i → gap_in (drop i s) ≡ 0
+  pub gap_end : length s ≤ i → gap_in (drop i s) ≡ 0
   unfolding gap_in
-  gap-end h = rw (drop_of_length-le s h) refl
+  gap_end h = rw (drop_of_length-le s h) refl
 
 -- A `::` is two characters.
 two_colons : (c : ℕ) (s : List ℕ) → both (eqb c 58) (eqb (get_or s 0 0) 58) ≡ true → 1 ≤ length s

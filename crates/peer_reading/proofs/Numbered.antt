@@ -43,9 +43,9 @@ module _ (mark most : ℕ) (s : List ℕ) where
     pub small : v ≤ most
     pub goes : {A : Type 0} (next : ℕ → List ℕ → Answer A) → number_then mark most s next ≡ next v (drop n s)
 
-  numbered-by : (v n : ℕ) (a : Answer ℕ) → numeral most (take (first_length mark s) s) ≡ a → first_length mark s < length s
+  numbered_by : (v n : ℕ) (a : Answer ℕ) → numeral most (take (first_length mark s) s) ≡ a → first_length mark s < length s
       → ◌≡◌ {A = Answer Before} (given (record { value = v; next = n })) (onward a (λ m. given (record { value = m; next = first_length mark s + 1 }))) → Numbered v n
-  numbered-by v n (given m) q h e =
+  numbered_by v n (given m) q h e =
       let f : ◌≡◌ {A = Before} (record { value = v; next = n }) (record { value = m; next = first_length mark s + 1 }) = same_given e in
       let fv : v ≡ m = ap (λ (x : Before). x.value) f in
       let fn : n ≡ first_length mark s + 1 = ap (λ (x : Before). x.next) f in
@@ -54,22 +54,22 @@ module _ (mark most : ℕ) (s : List ℕ) where
         small = omega (arith, fv, numeral_small most (take (first_length mark s) s) m q);
         goes = λ {A} next. to_some next h ∙ (ap (λ (x : Answer ℕ). onward x (λ j. next j (drop (first_length mark s + 1) s))) q ∙ (rw (fv, fn) refl));
       }
-  numbered-by v n (refused j) q h e = not_refused e
+  numbered_by v n (refused j) q h e = not_refused e
 
   pub numbered : (v n : ℕ) → given (record { value = v; next = n }) ≡ number_to mark most s → Numbered v n
   numbered v n e =
       by_lt (first_length mark s) (length s)
-      (λ h. numbered-by v n (numeral most (take (first_length mark s) s)) refl h (e ∙ to_some (keep (first_length mark s)) h))
+      (λ h. numbered_by v n (numeral most (take (first_length mark s) s)) refl h (e ∙ to_some (keep (first_length mark s)) h))
       (λ h. not_refused (e ∙ to_none (keep (first_length mark s)) h))
 
-  unnumbered-by : {A : Type 0} (next : ℕ → List ℕ → Answer A) (a : Answer ℕ) → ◌≡◌ {A = Answer Before} (refused 15) (onward a (λ m. given (record { value = m; next = first_length mark s + 1 }))) → onward a (λ m. next m (drop (first_length mark s + 1) s)) ≡ refused 15
-  unnumbered-by next (given m) e = not_refused (sym e)
-  unnumbered-by next (refused j) e = cc
+  unnumbered_by : {A : Type 0} (next : ℕ → List ℕ → Answer A) (a : Answer ℕ) → ◌≡◌ {A = Answer Before} (refused 15) (onward a (λ m. given (record { value = m; next = first_length mark s + 1 }))) → onward a (λ m. next m (drop (first_length mark s + 1) s)) ≡ refused 15
+  unnumbered_by next (given m) e = not_refused (sym e)
+  unnumbered_by next (refused j) e = cc
 
   pub unnumbered : refused 15 ≡ number_to mark most s → {A : Type 0} (next : ℕ → List ℕ → Answer A) → number_then mark most s next ≡ refused 15
   unnumbered e next =
       by_lt (first_length mark s) (length s)
-      (λ h. to_some next h ∙ unnumbered-by next (numeral most (take (first_length mark s) s)) (e ∙ to_some (keep (first_length mark s)) h))
+      (λ h. to_some next h ∙ unnumbered_by next (numeral most (take (first_length mark s) s)) (e ∙ to_some (keep (first_length mark s)) h))
       (λ h. to_none next h)
 
 -- What the code answers by: where the first mark stands, and what was read before it.
@@ -77,13 +77,13 @@ module _ (mark most : ℕ) (s : List ℕ) (end : ℕ) (at : end ≡ 0 + first_le
   pub told_none : length s ≤ end → refused 15 ≡ number_to mark most s
   told_none h = sym (to_none mark most s (keep (first_length mark s)) (omega arith))
 
-  pub told-number : (v : ℕ) → end < length s → given v ≡ numeral most (take end s) → given (record { value = v; next = end + 1 }) ≡ number_to mark most s
-  told-number v h e =
+  pub told_number : (v : ℕ) → end < length s → given v ≡ numeral most (take end s) → given (record { value = v; next = end + 1 }) ≡ number_to mark most s
+  told_number v h e =
       let k : end ≡ first_length mark s = omega arith in
       rw k (sym (to_some mark most s (keep (first_length mark s)) (omega arith) ∙ (rw (sym (rw k at e)) refl)))
 
-  pub told-bad : end < length s → refused 15 ≡ numeral most (take end s) → refused 15 ≡ number_to mark most s
-  told-bad h e =
+  pub told_bad : end < length s → refused 15 ≡ numeral most (take end s) → refused 15 ≡ number_to mark most s
+  told_bad h e =
       let k : end ≡ first_length mark s = omega arith in
       sym (to_some mark most s (keep (first_length mark s)) (omega arith) ∙ (rw (sym (rw k at e)) refl))
 
@@ -116,8 +116,8 @@ port_is t a e q = rw (eq-eqb (get_or t 0 0) 58 e) q
 
 -- A port that is none, and one.
 module _ (a b c d : ℕ) (s : List ℕ) where
-  pub no-port : refused 15 ≡ numeral 65535 s → from_port a b c d s ≡ refused 15
-  no-port e = rw (sym e) refl
+  pub no_port : refused 15 ≡ numeral 65535 s → from_port a b c d s ≡ refused 15
+  no_port e = rw (sym e) refl
 
-  pub a-port : (port : ℕ) → given port ≡ numeral 65535 s → from_port a b c d s ≡ given (mapped_peer a b c d port)
-  a-port port e = rw (sym e) refl
+  pub a_port : (port : ℕ) → given port ≡ numeral 65535 s → from_port a b c d s ≡ given (mapped_peer a b c d port)
+  a_port port e = rw (sym e) refl

@@ -70,13 +70,13 @@ with port a = onward a (λ x. given (x ++ pair_bytes port))
 
 -- An address with `::`, and one without.
 module _ (t : List ℕ) (port gap : ℕ) (at : gap ≡ gap_in t) where
-  pub without-gap : length t ≤ gap → with port (address_in t) ≡ with port (whole_address t)
+  pub without_gap : length t ≤ gap → with port (address_in t) ≡ with port (whole_address t)
   unfolding address_in
-  without-gap h = rw (le-ltb (gap_in t) (length t) (omega arith)) refl
+  without_gap h = rw (le-ltb (gap_in t) (length t) (omega arith)) refl
 
-  pub with-gap : gap < length t → with port (address_in t) ≡ with port (cut_address (take gap t) (drop (gap + 2) t))
+  pub with_gap : gap < length t → with port (address_in t) ≡ with port (cut_address (take gap t) (drop (gap + 2) t))
   unfolding address_in
-  with-gap h = rw (at, lt-ltb (gap_in t) (length t) (omega arith)) refl
+  with_gap h = rw (at, lt-ltb (gap_in t) (length t) (omega arith)) refl
 
 pub cut_rest : (gap : ℕ) (t l : List ℕ) (port : ℕ) → with port (cut_address l (drop (gap + 2) t)) ≡ with port (cut_address l (take (length t - (gap + 2)) (drop (gap + 2) t)))
 cut_rest gap t l port = ap (λ (m : List ℕ). with port (cut_address l m)) (sym (rest_is t (gap + 2)))
@@ -94,18 +94,18 @@ filled x r b p e =
     (puts_whole p (omega arith)).out ∙ (put_front (replicate 18 0) x (omega arith) ∙ (ap (λ (n : ℕ). x ++ drop n (replicate 18 0)) e ∙ append-nil x))
 
 module _ (t : List ℕ) (port : ℕ) where
-  pub whole-none : is_side t ≡ false → with port (whole_address t) ≡ refused 15
+  pub whole_none : is_side t ≡ false → with port (whole_address t) ≡ refused 15
   unfolding whole_address
-  whole-none e = rw e refl
+  whole_none e = rw e refl
 
   module _ (good : is_side t ≡ true) (end : ℕ) (b : List ℕ) (p : Puts (replicate 18 0) 0 (side_bytes t) end b) where
-    pub whole-other : (end ≡ 16 → ⊥) → with port (whole_address t) ≡ refused 15
+    pub whole_other : (end ≡ 16 → ⊥) → with port (whole_address t) ≡ refused 15
     unfolding whole_address
-    whole-other z = rw (good, ne_eqb (length (side_bytes t)) 16 (λ e. z (omega (arith, put_size (side_bytes t) end b p)))) refl
+    whole_other z = rw (good, ne_eqb (length (side_bytes t)) 16 (λ e. z (omega (arith, put_size (side_bytes t) end b p)))) refl
 
-    pub whole-all : (r : ℕ) (new : List ℕ) → end ≡ 16 → Puts b end (pair_bytes port) r new → ReadsPeer (with port (whole_address t)) (record { outcome = Done; bytes = new })
+    pub whole_all : (r : ℕ) (new : List ℕ) → end ≡ 16 → Puts b end (pair_bytes port) r new → ReadsPeer (with port (whole_address t)) (record { outcome = Done; bytes = new })
     unfolding whole_address
-    whole-all r new e q =
+    whole_all r new e q =
         let n : length (side_bytes t) ≡ 16 = omega (arith, put_size (side_bytes t) end b p) in
         answers (with port (whole_address t)) (side_bytes t ++ pair_bytes port) new (rw (good, eq-eqb (length (side_bytes t)) 16 n) refl)
         (filled (side_bytes t ++ pair_bytes port) r new (puts_puts p q) (omega (arith, length-append (side_bytes t) (pair_bytes port))))
@@ -116,19 +116,19 @@ take_zeros (suc k) zero h = absurd (omega arith)
 take_zeros (suc k) (suc n) h = ap (λ (l : List ℕ). 0 ∷ l) (take_zeros k n (omega arith))
 
 module _ (l m : List ℕ) (port : ℕ) where
-  pub no-left : is_side l ≡ false → with port (cut_address l m) ≡ refused 15
+  pub no_left : is_side l ≡ false → with port (cut_address l m) ≡ refused 15
   unfolding cut_address
-  no-left e = rw e refl
+  no_left e = rw e refl
 
-  pub no-right : is_side l ≡ true → is_side m ≡ false → with port (cut_address l m) ≡ refused 15
+  pub no_right : is_side l ≡ true → is_side m ≡ false → with port (cut_address l m) ≡ refused 15
   unfolding cut_address
-  no-right e f = rw (e, f) refl
+  no_right e f = rw (e, f) refl
 
   -- The sizes of both sides, put at the front of zeros each.
   module _ (good : is_side l ≡ true) (also : is_side m ≡ true) (behind before : ℕ) (spare b : List ℕ) (p : Puts (replicate 18 0) 0 (side_bytes m) behind spare) (q : Puts (replicate 18 0) 0 (side_bytes l) before b) where
-    pub cut-long : 15 < before + behind → with port (cut_address l m) ≡ refused 15
+    pub cut_long : 15 < before + behind → with port (cut_address l m) ≡ refused 15
     unfolding cut_address
-    cut-long h =
+    cut_long h =
         rw (good, also, lt-ltb 15 (length (side_bytes l) + length (side_bytes m)) (omega (arith, put_size (side_bytes m) behind spare p, put_size (side_bytes l) before b q))) refl
 
     pub cut_all : before + behind ≤ 15 → (n o r : ℕ) (b₁ b₂ new : List ℕ) → Puts b before (take (16 - (before + behind)) (replicate 16 0)) n b₁ → Puts b₁ n (side_bytes m) o b₂

@@ -20,7 +20,7 @@ use Rattle.uri_text.specs.Tally.{first_length}
 use Rattle.peers.specs.Text.{group, row, run_in, run_end, longest_in, longest, groups_text, is_mapped, dotted, peer_text}
 use Rattle.peer_reading.specs.Reading.{pair_bytes, mapped_peer, from_port, from_fourth, from_third, from_second, dotted_peer, gap_in, whole_address, cut_address, address_in, port_in, grouped_peer, peer_in}
 use Rattle.peer_reading.proofs.Digits.{Without, without_append, first_at, after_mark, digits_without, numeral_decimal, then_number}
-use Rattle.peer_reading.proofs.Rows.{bytes_from, bytes_length, bytes_split, group-small, pair-back, side-judged, side-read, side-passed, side-plain}
+use Rattle.peer_reading.proofs.Rows.{bytes_from, bytes_length, bytes_split, group_small, pair_back, side_judged, side_read, side_passed, side_plain}
 use Rattle.peer_reading.proofs.Putting.{peer_grouped, peer_dotted}
 
 -- A list by its elements.
@@ -76,17 +76,17 @@ module _ (p : List ℕ) (b : Bytes p) where
   unfolding gap_in
   no_gap = refl
 
-  gap-first : (s : List ℕ) → gap_in (58 ∷ 58 ∷ s) ≡ 0
+  gap_first : (s : List ℕ) → gap_in (58 ∷ 58 ∷ s) ≡ 0
   unfolding gap_in
-  gap-first s = refl
+  gap_first s = refl
 
   whole : address_in (row p 0 8) ≡ given (bytes_from p 8 0)
   unfolding address_in whole_address
   whole =
       let t : List ℕ = row p 0 8 in
       let e : gap_in t ≡ length t =
-      ap gap_in (sym (append-nil t)) ∙ (side-passed p b 8 0 [] ∙ (ap (λ (n : ℕ). length t + n) no_gap ∙ add-zero (length t))) in
-      rw (e, le-ltb (length t) (length t) (omega arith), side-judged p b 8 0, side-read p b 8 0) refl
+      ap gap_in (sym (append-nil t)) ∙ (side_passed p b 8 0 [] ∙ (ap (λ (n : ℕ). length t + n) no_gap ∙ add-zero (length t))) in
+      rw (e, le-ltb (length t) (length t) (omega arith), side_judged p b 8 0, side_read p b 8 0) refl
 
   cut : (start : ℕ) → start < run_end p start → address_in (row p 0 start ++ (58 ∷ 58 ∷ row p (run_end p start) 8)) ≡ given (bytes_from p 8 0)
   unfolding address_in cut_address
@@ -97,7 +97,7 @@ module _ (p : List ℕ) (b : Bytes p) where
       let t : List ℕ = l ++ (58 ∷ 58 ∷ r) in
       let w : e ≤ start + (8 - start) = run_within p (8 - start) start in
       let zero-start : start - 0 ≡ start = omega arith in
-      let g : gap_in t ≡ length l = side-passed p b (start - 0) 0 (58 ∷ 58 ∷ r) ∙ (ap (λ (n : ℕ). length l + n) (gap-first r) ∙ add-zero (length l)) in
+      let g : gap_in t ≡ length l = side_passed p b (start - 0) 0 (58 ∷ 58 ∷ r) ∙ (ap (λ (n : ℕ). length l + n) (gap_first r) ∙ add-zero (length l)) in
       let k : length l < length t = omega (arith, length-append l (58 ∷ 58 ∷ r)) in
       let x : List ℕ = bytes_from p (start - 0) 0 in
       let y : List ℕ = bytes_from p (8 - e) e in
@@ -105,13 +105,13 @@ module _ (p : List ℕ) (b : Bytes p) where
       let ny : length y ≡ 2 * (8 - e) = bytes_length p (8 - e) e in
       let z : replicate (16 - (length x + length y)) 0 ≡ bytes_from p (e - start) start =
       ap (λ (n : ℕ). replicate n 0) (let q : 16 - (length x + length y) ≡ 2 * (e - start) = omega arith in q) ∙ sym (run_zeros p (8 - start) start) in
-      let d : drop (length l + 2) t ≡ r = drop-append-two l r in
+      let d : drop (length l + 2) t ≡ r = drop_append_two l r in
       let all : bytes_from p 8 0 ≡ x ++ (bytes_from p (e - start) start ++ y) = pieced start e (omega arith) (omega arith) in
-      rw (g, lt-ltb (length l) (length t) k, take_at l (58 ∷ 58 ∷ r) (length l) refl, d, side-judged p b (start - 0) 0, side-judged p b (8 - e) e, side-read p b (start - 0) 0, side-read p b (8 - e) e, le-ltb 15 (length x + length y) (omega arith), z)
+      rw (g, lt-ltb (length l) (length t) k, take_at l (58 ∷ 58 ∷ r) (length l) refl, d, side_judged p b (start - 0) 0, side_judged p b (8 - e) e, side_read p b (start - 0) 0, side_read p b (8 - e) e, le-ltb 15 (length x + length y) (omega arith), z)
       (ap given (sym all))
     where
-      drop-append-two : (l r : List ℕ) → drop (length l + 2) (l ++ (58 ∷ 58 ∷ r)) ≡ r
-      drop-append-two l r = drop-append-add l (58 ∷ 58 ∷ r) 2
+      drop_append_two : (l r : List ℕ) → drop (length l + 2) (l ++ (58 ∷ 58 ∷ r)) ≡ r
+      drop_append_two l r = drop-append-add l (58 ∷ 58 ∷ r) 2
 
       pieced : (start e : ℕ) → start ≤ e → e ≤ 8 → bytes_from p 8 0 ≡ bytes_from p (start - 0) 0 ++ (bytes_from p (e - start) start ++ bytes_from p (8 - e) e)
       pieced start e a c =
@@ -121,17 +121,17 @@ module _ (p : List ℕ) (b : Bytes p) where
           ap (λ (n : ℕ). bytes_from p n 0) s₀ ∙ (bytes_split p (start - 0) ((e - start) + (8 - e)) 0
           ∙ ap (λ (m : List ℕ). bytes_from p (start - 0) 0 ++ m) (ap (bytes_from p ((e - start) + (8 - e))) s₁ ∙ (bytes_split p (e - start) (8 - e) start ∙ ap (λ (n : ℕ). bytes_from p (e - start) start ++ bytes_from p (8 - e) n) s₂)))
 
-  pub groups-back : address_in (groups_text p) ≡ given (bytes_from p 8 0)
+  pub groups_back : address_in (groups_text p) ≡ given (bytes_from p 8 0)
   unfolding Some
-  groups-back =
+  groups_back =
       on_eq (λ (t : List ℕ). address_in t ≡ given (bytes_from p 8 0)) (longest p) 8 (λ e. whole)
       (λ z. ⊎_elim (λ e. absurd (z e)) (λ h. cut (longest p) h) (longest_some p 8 0 8 1 (inl refl)))
 
-  groups-plain : Without 93 (groups_text p)
-  groups-plain =
-      on_eq (Without 93) (longest p) 8 (λ e. side-plain p b 8 0)
-      (λ z. without_append 93 (row p 0 (longest p)) (58 ∷ 58 ∷ row p (run_end p (longest p)) 8) (side-plain p b (longest p - 0) 0)
-      (λ e. omega arith, (λ e. omega arith, side-plain p b (8 - run_end p (longest p)) (run_end p (longest p)))))
+  groups_plain : Without 93 (groups_text p)
+  groups_plain =
+      on_eq (Without 93) (longest p) 8 (λ e. side_plain p b 8 0)
+      (λ z. without_append 93 (row p 0 (longest p)) (58 ∷ 58 ∷ row p (run_end p (longest p)) 8) (side_plain p b (longest p - 0) 0)
+      (λ e. omega arith, (λ e. omega arith, side_plain p b (8 - run_end p (longest p)) (run_end p (longest p)))))
 
 -- A port behind its colon.
 port_back : (port : ℕ) → port ≤ 65535 → port_in (58 ∷ decimal port) ≡ given port
@@ -165,21 +165,21 @@ dotted_back a b c d port ha hb hc hd hp =
     ∙ ap (λ (x : Answer ℕ). onward x (λ n. given (mapped_peer a b c d n))) (numeral_decimal 65535 port hp hp))))
 
 module _ (p : List ℕ) (e : length p ≡ 18) (b : Bytes p) where
-  port-small : group p 8 ≤ 65535
-  port-small = omega (arith, group-small p b 8)
+  port_small : group p 8 ≤ 65535
+  port_small = omega (arith, group_small p b 8)
 
   -- A peer is the bytes of its groups and of its port.
   parts : p ≡ bytes_from p 8 0 ++ pair_bytes (group p 8)
-  parts = tabled p 18 e ∙ ap (λ (l : List ℕ). bytes_from p 8 0 ++ l) (sym (pair-back p b 8))
+  parts = tabled p 18 e ∙ ap (λ (l : List ℕ). bytes_from p 8 0 ++ l) (sym (pair_back p b 8))
 
-  grouped-back : grouped_peer (groups_text p ++ (93 ∷ (58 ∷ decimal (group p 8)))) ≡ given (bytes_from p 8 0 ++ pair_bytes (group p 8))
+  grouped_back : grouped_peer (groups_text p ++ (93 ∷ (58 ∷ decimal (group p 8)))) ≡ given (bytes_from p 8 0 ++ pair_bytes (group p 8))
   unfolding grouped_peer
-  grouped-back =
+  grouped_back =
       let t : List ℕ = groups_text p in
       let s : List ℕ = t ++ (93 ∷ (58 ∷ decimal (group p 8))) in
-      let k : first_length 93 s ≡ length t = first_at 93 t (58 ∷ decimal (group p 8)) (groups-plain p b) in
+      let k : first_length 93 s ≡ length t = first_at 93 t (58 ∷ decimal (group p 8)) (groups_plain p b) in
       let l : length t < length s = omega (arith, length-append t (93 ∷ (58 ∷ decimal (group p 8)))) in
-      rw (k, lt-ltb (length t) (length s) l, after_mark 93 t (58 ∷ decimal (group p 8)), port_back (group p 8) port-small, take_at t (93 ∷ (58 ∷ decimal (group p 8))) (length t) refl, groups-back p b) refl
+      rw (k, lt-ltb (length t) (length s) l, after_mark 93 t (58 ∷ decimal (group p 8)), port_back (group p 8) port_small, take_at t (93 ∷ (58 ∷ decimal (group p 8))) (length t) refl, groups_back p b) refl
 
   -- The bytes of an IPv4-mapped address.
   module _ (run : run_end p 0 ≡ 5) (ones : group p 5 ≡ 65535) where
@@ -192,28 +192,28 @@ module _ (p : List ℕ) (e : length p ≡ 18) (b : Bytes p) where
     twelfth : get_or p 11 0 ≡ 255
     twelfth = omega (arith, byte_at p 10 b, byte_at p 11 b, ones)
 
-    mapped-parts : p ≡ mapped_peer (get_or p 12 0) (get_or p 13 0) (get_or p 14 0) (get_or p 15 0) (group p 8)
-    mapped-parts =
+    mapped_parts : p ≡ mapped_peer (get_or p 12 0) (get_or p 13 0) (get_or p 14 0) (get_or p 15 0) (group p 8)
+    mapped_parts =
         let rest : List ℕ = get_or p 12 0 ∷ get_or p 13 0 ∷ get_or p 14 0 ∷ get_or p 15 0 ∷ pair_bytes (group p 8) in
         parts ∙ (ap (λ (l : List ℕ). l ++ (get_or p 10 0 ∷ get_or p 11 0 ∷ rest)) ten
         ∙ (ap (λ (x : ℕ). replicate 10 0 ++ (x ∷ get_or p 11 0 ∷ rest)) eleventh ∙ ap (λ (x : ℕ). replicate 10 0 ++ (255 ∷ x ∷ rest)) twelfth))
 
-    mapped-back : peer_in (dotted p ++ (58 ∷ decimal (group p 8))) ≡ given p
-    mapped-back =
+    mapped_back : peer_in (dotted p ++ (58 ∷ decimal (group p 8))) ≡ given p
+    mapped_back =
         let da : List ℕ = decimal (get_or p 12 0) in
         let r : List ℕ = decimal (get_or p 13 0) ++ (46 ∷ (decimal (get_or p 14 0) ++ (46 ∷ (decimal (get_or p 15 0) ++ (58 ∷ decimal (group p 8)))))) in
         ap peer_in (regroup da (decimal (get_or p 13 0)) (decimal (get_or p 14 0)) (decimal (get_or p 15 0)) (decimal (group p 8)))
         ∙ (peer_dotted (da ++ (46 ∷ r)) (first_other da r (no_bracket (get_or p 12 0)))
-        ∙ (dotted_back (get_or p 12 0) (get_or p 13 0) (get_or p 14 0) (get_or p 15 0) (group p 8) (byte_at p 12 b) (byte_at p 13 b) (byte_at p 14 b) (byte_at p 15 b) port-small
-        ∙ ap given (sym mapped-parts)))
+        ∙ (dotted_back (get_or p 12 0) (get_or p 13 0) (get_or p 14 0) (get_or p 15 0) (group p 8) (byte_at p 12 b) (byte_at p 13 b) (byte_at p 14 b) (byte_at p 15 b) port_small
+        ∙ ap given (sym mapped_parts)))
 
   other_back : peer_in ((91 ∷ (groups_text p ++ (93 ∷ []))) ++ (58 ∷ decimal (group p 8))) ≡ given p
   other_back =
       peer_grouped ((91 ∷ (groups_text p ++ (93 ∷ []))) ++ (58 ∷ decimal (group p 8))) refl
-      ∙ (ap grouped_peer (append_assoc (groups_text p) (93 ∷ []) (58 ∷ decimal (group p 8))) ∙ (grouped-back ∙ ap given (sym parts)))
+      ∙ (ap grouped_peer (append_assoc (groups_text p) (93 ∷ []) (58 ∷ decimal (group p 8))) ∙ (grouped_back ∙ ap given (sym parts)))
 
   by_kind : (m : Bool) → is_mapped p ≡ m → peer_in (pick m (dotted p) (91 ∷ (groups_text p ++ (93 ∷ []))) ++ (58 ∷ decimal (group p 8))) ≡ given p
-  by_kind true q = let h = both_true (eqb (run_end p 0) 5) (eqb (group p 5) 65535) q in mapped-back (eqb-true (run_end p 0) 5 h.0) (eqb-true (group p 5) 65535 h.1)
+  by_kind true q = let h = both_true (eqb (run_end p 0) 5) (eqb (group p 5) 65535) q in mapped_back (eqb-true (run_end p 0) 5 h.0) (eqb-true (group p 5) 65535 h.1)
   by_kind false q = other_back
 
   pub read_back : peer_in (peer_text p) ≡ given p

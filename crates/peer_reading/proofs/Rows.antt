@@ -136,33 +136,33 @@ digits_plain (d ∷ ds) m = (no_bracket d m.0, digits_plain ds m.1)
 
 -- A group before what follows it.
 module _ (n : ℕ) (h : n < 65536) (s : List ℕ) where
-  pub group-judged : (k : ℕ) × (1 ≤ k) × (are_groups 0 (group_text n ++ s) ≡ are_groups k s)
-  group-judged =
+  pub group_judged : (k : ℕ) × (1 ≤ k) × (are_groups 0 (group_text n ++ s) ≡ are_groups k s)
+  group_judged =
       let g = spelt n h in
       (length g.digits, g.some, rw g.is (digits_judged g.digits s 0 g.small (omega (arith, g.few)) ∙ ap (λ (k : ℕ). are_groups k s) (let e : 0 + length g.digits ≡ length g.digits = omega arith in e)))
 
-  pub group-read : group_bytes 0 (group_text n ++ s) ≡ group_bytes n s
-  group-read = let g = spelt n h in rw g.is (digits_read g.digits s 0 g.small ∙ ap (λ (v : ℕ). group_bytes v s) g.value)
+  pub group_read : group_bytes 0 (group_text n ++ s) ≡ group_bytes n s
+  group_read = let g = spelt n h in rw g.is (digits_read g.digits s 0 g.small ∙ ap (λ (v : ℕ). group_bytes v s) g.value)
 
-  pub group-passed : gap_in (group_text n ++ s) ≡ length (group_text n) + gap_in s
-  group-passed = let g = spelt n h in rw g.is (digits_passed g.digits s g.small)
+  pub group_passed : gap_in (group_text n ++ s) ≡ length (group_text n) + gap_in s
+  group_passed = let g = spelt n h in rw g.is (digits_passed g.digits s g.small)
 
   first_by : (ds : List ℕ) → Small ds → 1 ≤ length ds → get_or (hexes ds ++ s) 0 0 ≡ 58 → ⊥
   first_by [] m l = absurd (omega arith)
   first_by (d ∷ ds) m l = no_digit 58 d m.0 refl
 
-  pub group-first : get_or (group_text n ++ s) 0 0 ≡ 58 → ⊥
-  group-first = let g = spelt n h in rw g.is (first_by g.digits g.small g.some)
+  pub group_first : get_or (group_text n ++ s) 0 0 ≡ 58 → ⊥
+  group_first = let g = spelt n h in rw g.is (first_by g.digits g.small g.some)
 
 pub group_plain : (n : ℕ) → n < 65536 → Without 93 (group_text n)
 group_plain n h = let g = spelt n h in rw g.is (digits_plain g.digits g.small)
 
 pub group_some : (n : ℕ) → n < 65536 → 1 ≤ length (group_text n)
-group_some n h = let g = spelt n h in rw g.is (some-by g.digits g.some)
+group_some n h = let g = spelt n h in rw g.is (some_by g.digits g.some)
   where
-    some-by : (ds : List ℕ) → 1 ≤ length ds → 1 ≤ length (hexes ds)
-    some-by [] l = l
-    some-by (d ∷ ds) l = omega arith
+    some_by : (ds : List ℕ) → 1 ≤ length ds → 1 ≤ length (hexes ds)
+    some_by [] l = l
+    some_by (d ∷ ds) l = omega arith
 
 -- The bytes of so many groups of a peer, from one on.
 abbrev pub bytes_from : List ℕ → ℕ → ℕ → List ℕ
@@ -182,12 +182,12 @@ bytes_split p (suc n) m g =
 
 -- Rows of a peer's groups.
 module _ (p : List ℕ) (b : Bytes p) where
-  pub group-small : (g : ℕ) → group p g < 65536
-  group-small g = omega (arith, byte_at p (2 * g) b, byte_at p (2 * g + 1) b)
+  pub group_small : (g : ℕ) → group p g < 65536
+  group_small g = omega (arith, byte_at p (2 * g) b, byte_at p (2 * g + 1) b)
 
   -- A group's number is its two bytes.
-  pub pair-back : (g : ℕ) → pair_bytes (group p g) ≡ get_or p (2 * g) 0 ∷ get_or p (2 * g + 1) 0 ∷ []
-  pair-back g =
+  pub pair_back : (g : ℕ) → pair_bytes (group p g) ≡ get_or p (2 * g) 0 ∷ get_or p (2 * g + 1) 0 ∷ []
+  pair_back g =
       let x : ℕ = get_or p (2 * g) 0 in
       let y : ℕ = get_or p (2 * g + 1) 0 in
       let hx : x < 256 = byte_at p (2 * g) b in
@@ -197,37 +197,37 @@ module _ (p : List ℕ) (b : Bytes p) where
       rw (e, f) refl
 
   -- A group after the first of its row stands behind a colon.
-  piece-later : (f g : ℕ) → f < g → piece p f g ≡ 58 ∷ group_text (group p g)
-  piece-later f g h = rw (lt-ltb f g h) refl
+  piece_later : (f g : ℕ) → f < g → piece p f g ≡ 58 ∷ group_text (group p g)
+  piece_later f g h = rw (lt-ltb f g h) refl
 
-  piece-first : (f : ℕ) → piece p f f ≡ group_text (group p f)
-  piece-first f = rw (le-ltb f f (omega arith)) refl
+  piece_first : (f : ℕ) → piece p f f ≡ group_text (group p f)
+  piece_first f = rw (le-ltb f f (omega arith)) refl
 
-  rest-judged : (f n g k : ℕ) → f < g → 1 ≤ k → are_groups k (pieces p f n g) ≡ true
+  rest_judged : (f n g k : ℕ) → f < g → 1 ≤ k → are_groups k (pieces p f n g) ≡ true
   unfolding pieces are_groups
-  rest-judged f zero g k h l = lt-ltb 0 k l
-  rest-judged f (suc n) g k h l =
+  rest_judged f zero g k h l = lt-ltb 0 k l
+  rest_judged f (suc n) g k h l =
       let r : List ℕ = pieces p f n (suc g) in
-      let j = group-judged (group p g) (group-small g) r in
-      rw (piece-later f g h, ne_eqb k 0 (λ e. omega arith)) (j.2 ∙ rest-judged f n (suc g) j.0 (omega arith) j.1)
+      let j = group_judged (group p g) (group_small g) r in
+      rw (piece_later f g h, ne_eqb k 0 (λ e. omega arith)) (j.2 ∙ rest_judged f n (suc g) j.0 (omega arith) j.1)
 
   rest_read : (f n g v : ℕ) → f < g → group_bytes v (pieces p f n g) ≡ pair_bytes v ++ bytes_from p n g
   unfolding pieces group_bytes
   rest_read f zero g v h = refl
   rest_read f (suc n) g v h =
       let r : List ℕ = pieces p f n (suc g) in
-      rw (piece-later f g h)
+      rw (piece_later f g h)
       (ap (λ (l : List ℕ). pair_bytes v ++ l)
-      (group-read (group p g) (group-small g) r ∙ (rest_read f n (suc g) (group p g) (omega arith) ∙ ap (λ (l : List ℕ). l ++ bytes_from p n (suc g)) (pair-back g))))
+      (group_read (group p g) (group_small g) r ∙ (rest_read f n (suc g) (group p g) (omega arith) ∙ ap (λ (l : List ℕ). l ++ bytes_from p n (suc g)) (pair_back g))))
 
-  rest-passed : (f n g : ℕ) (s : List ℕ) → f < g → gap_in (pieces p f n g ++ s) ≡ length (pieces p f n g) + gap_in s
+  rest_passed : (f n g : ℕ) (s : List ℕ) → f < g → gap_in (pieces p f n g ++ s) ≡ length (pieces p f n g) + gap_in s
   unfolding pieces gap_in
-  rest-passed f zero g s h = omega arith
-  rest-passed f (suc n) g s h =
+  rest_passed f zero g s h = omega arith
+  rest_passed f (suc n) g s h =
       let r : List ℕ = pieces p f n (suc g) in
       let t : List ℕ = group_text (group p g) in
-      let w : get_or (t ++ (r ++ s)) 0 0 ≡ 58 → ⊥ = group-first (group p g) (group-small g) (r ++ s) in
-      rw (piece-later f g h, append_assoc t r s, ne_eqb (get_or (t ++ (r ++ s)) 0 0) 58 w, group-passed (group p g) (group-small g) (r ++ s), rest-passed f n (suc g) s (omega arith), length-append t r)
+      let w : get_or (t ++ (r ++ s)) 0 0 ≡ 58 → ⊥ = group_first (group p g) (group_small g) (r ++ s) in
+      rw (piece_later f g h, append_assoc t r s, ne_eqb (get_or (t ++ (r ++ s)) 0 0) 58 w, group_passed (group p g) (group_small g) (r ++ s), rest_passed f n (suc g) s (omega arith), length-append t r)
       (omega arith)
 
   rest_plain : (f n g : ℕ) → f < g → Without 93 (pieces p f n g)
@@ -235,53 +235,53 @@ module _ (p : List ℕ) (b : Bytes p) where
   rest_plain f zero g h = tt
   rest_plain f (suc n) g h =
       without_append 93 (piece p f g) (pieces p f n (suc g))
-      (rw (piece-later f g h) (λ e. omega arith, group_plain (group p g) (group-small g)))
+      (rw (piece_later f g h) (λ e. omega arith, group_plain (group p g) (group_small g)))
       (rest_plain f n (suc g) (omega arith))
 
   -- A row, and the empty row.
   module _ (f n : ℕ) where
     opens : pieces p f (suc n) f ≡ group_text (group p f) ++ pieces p f n (suc f)
     unfolding pieces
-    opens = rw (piece-first f) refl
+    opens = rw (piece_first f) refl
 
-    row-judged : are_groups 0 (pieces p f (suc n) f) ≡ true
-    row-judged =
-        let j = group-judged (group p f) (group-small f) (pieces p f n (suc f)) in
-        ap (are_groups 0) opens ∙ (j.2 ∙ rest-judged f n (suc f) j.0 (omega arith) j.1)
+    row_judged : are_groups 0 (pieces p f (suc n) f) ≡ true
+    row_judged =
+        let j = group_judged (group p f) (group_small f) (pieces p f n (suc f)) in
+        ap (are_groups 0) opens ∙ (j.2 ∙ rest_judged f n (suc f) j.0 (omega arith) j.1)
 
     row_read : group_bytes 0 (pieces p f (suc n) f) ≡ bytes_from p (suc n) f
     row_read =
-        ap (group_bytes 0) opens ∙ (group-read (group p f) (group-small f) (pieces p f n (suc f))
-        ∙ (rest_read f n (suc f) (group p f) (omega arith) ∙ ap (λ (l : List ℕ). l ++ bytes_from p n (suc f)) (pair-back f)))
+        ap (group_bytes 0) opens ∙ (group_read (group p f) (group_small f) (pieces p f n (suc f))
+        ∙ (rest_read f n (suc f) (group p f) (omega arith) ∙ ap (λ (l : List ℕ). l ++ bytes_from p n (suc f)) (pair_back f)))
 
-    row-passed : (s : List ℕ) → gap_in (pieces p f (suc n) f ++ s) ≡ length (pieces p f (suc n) f) + gap_in s
-    row-passed s =
+    row_passed : (s : List ℕ) → gap_in (pieces p f (suc n) f ++ s) ≡ length (pieces p f (suc n) f) + gap_in s
+    row_passed s =
         let t : List ℕ = group_text (group p f) in
         let q : List ℕ = pieces p f n (suc f) in
-        rw (opens, append_assoc t q s, group-passed (group p f) (group-small f) (q ++ s), rest-passed f n (suc f) s (omega arith), length-append t q) (omega arith)
+        rw (opens, append_assoc t q s, group_passed (group p f) (group_small f) (q ++ s), rest_passed f n (suc f) s (omega arith), length-append t q) (omega arith)
 
     row_plain : Without 93 (pieces p f (suc n) f)
-    row_plain = rw opens (without_append 93 (group_text (group p f)) (pieces p f n (suc f)) (group_plain (group p f) (group-small f)) (rest_plain f n (suc f) (omega arith)))
+    row_plain = rw opens (without_append 93 (group_text (group p f)) (pieces p f n (suc f)) (group_plain (group p f) (group_small f)) (rest_plain f n (suc f) (omega arith)))
 
-    row-some : 1 ≤ length (pieces p f (suc n) f)
-    row-some = rw (opens, length-append (group_text (group p f)) (pieces p f n (suc f))) (omega (arith, group_some (group p f) (group-small f)))
+    row_some : 1 ≤ length (pieces p f (suc n) f)
+    row_some = rw (opens, length-append (group_text (group p f)) (pieces p f n (suc f))) (omega (arith, group_some (group p f) (group_small f)))
 
-  pub side-judged : (n f : ℕ) → is_side (pieces p f n f) ≡ true
+  pub side_judged : (n f : ℕ) → is_side (pieces p f n f) ≡ true
   unfolding is_side pieces
-  side-judged zero f = refl
-  side-judged (suc n) f = rw (ne_eqb (length (pieces p f (suc n) f)) 0 (λ e. omega (arith, row-some f n))) (row-judged f n)
+  side_judged zero f = refl
+  side_judged (suc n) f = rw (ne_eqb (length (pieces p f (suc n) f)) 0 (λ e. omega (arith, row_some f n))) (row_judged f n)
 
-  pub side-read : (n f : ℕ) → side_bytes (pieces p f n f) ≡ bytes_from p n f
+  pub side_read : (n f : ℕ) → side_bytes (pieces p f n f) ≡ bytes_from p n f
   unfolding side_bytes pieces
-  side-read zero f = refl
-  side-read (suc n) f = rw (ne_eqb (length (pieces p f (suc n) f)) 0 (λ e. omega (arith, row-some f n))) (row_read f n)
+  side_read zero f = refl
+  side_read (suc n) f = rw (ne_eqb (length (pieces p f (suc n) f)) 0 (λ e. omega (arith, row_some f n))) (row_read f n)
 
-  pub side-passed : (n f : ℕ) (s : List ℕ) → gap_in (pieces p f n f ++ s) ≡ length (pieces p f n f) + gap_in s
+  pub side_passed : (n f : ℕ) (s : List ℕ) → gap_in (pieces p f n f ++ s) ≡ length (pieces p f n f) + gap_in s
   unfolding pieces
-  side-passed zero f s = omega arith
-  side-passed (suc n) f s = row-passed f n s
+  side_passed zero f s = omega arith
+  side_passed (suc n) f s = row_passed f n s
 
-  pub side-plain : (n f : ℕ) → Without 93 (pieces p f n f)
+  pub side_plain : (n f : ℕ) → Without 93 (pieces p f n f)
   unfolding pieces
-  side-plain zero f = tt
-  side-plain (suc n) f = row_plain f n
+  side_plain zero f = tt
+  side_plain (suc n) f = row_plain f n

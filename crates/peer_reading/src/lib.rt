@@ -1,6 +1,7 @@
 // Peers, read as people write them: an IPv4 address as 192.0.2.1:5683, any other in brackets, as [2001:db8::1]:5683 (RFC 4291,
 // section 2.2). A peer is 18 bytes, 16 of address and 2 of port; an IPv4 address stands in its IPv4-mapped form.
 #![tactic(auto)]
+
 mod groups;
 mod numbers;
 

@@ -43,11 +43,11 @@ module _ (p : List ℕ) (i start size : ℕ) (h : i < 8) where
   left : longest_in p (8 - i) i start size ≡ longest_in p (suc (8 - (i + 1))) i start size
   left = let e : 8 - i ≡ suc (8 - (i + 1)) = omega arith in ap (λ (n : ℕ). longest_in p n i start size) e
 
-  pub longest-more : size < run_end p i - i → longest_in p (8 - i) i start size ≡ longest_in p (8 - (i + 1)) (i + 1) i (run_end p i - i)
-  longest-more l = left ∙ takes p _ i start size l ∙ ap (λ (k : ℕ). longest_in p (8 - (i + 1)) k i (run_end p i - i)) (sym (add-one i))
+  pub longest_more : size < run_end p i - i → longest_in p (8 - i) i start size ≡ longest_in p (8 - (i + 1)) (i + 1) i (run_end p i - i)
+  longest_more l = left ∙ takes p _ i start size l ∙ ap (λ (k : ℕ). longest_in p (8 - (i + 1)) k i (run_end p i - i)) (sym (add-one i))
 
-  pub longest-less : run_end p i - i ≤ size → longest_in p (8 - i) i start size ≡ longest_in p (8 - (i + 1)) (i + 1) start size
-  longest-less l = left ∙ passes p _ i start size l ∙ ap (λ (k : ℕ). longest_in p (8 - (i + 1)) k start size) (sym (add-one i))
+  pub longest_less : run_end p i - i ≤ size → longest_in p (8 - i) i start size ≡ longest_in p (8 - (i + 1)) (i + 1) start size
+  longest_less l = left ∙ passes p _ i start size l ∙ ap (λ (k : ℕ). longest_in p (8 - (i + 1)) k start size) (sym (add-one i))
 
 pub longest_done : (p : List ℕ) (i start size : ℕ) → 8 ≤ i → longest_in p (8 - i) i start size ≡ start
 unfolding longest_in

@@ -2,6 +2,7 @@
 // in its IPv4-mapped form (RFC 4291, section 2.5.5.2), is put as 192.0.2.1:5683, any other in brackets, as [2001:db8::1]:5683, by
 // RFC 5952. `peer_reading` reads them.
 #![tactic(auto)]
+
 ghost use Rattle.std.specs.Prelude.{◌≡◌, [], ◌∷◌, ◌<◌, ◌≤◌};
 ghost use Rattle.ground.specs.Choice.{pick};
 ghost use Rattle.placing.specs.Put.{Puts};

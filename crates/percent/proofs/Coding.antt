@@ -49,15 +49,15 @@ pub counting_start : (kind : Kind) (v : List ℕ) → Counting kind v 0 0
 counting_start kind v = record { place = omega arith; few = omega arith; all = omega arith }
 
 module _ (kind : Kind) (v : List ℕ) (count i : ℕ) (w : Counting kind v count i) where
-  pub counting-end : length v ≤ i → count ≡ others kind v
-  counting-end h = omega (arith, w.all, ap (others kind) (drop_of_length-le v h))
+  pub counting_end : length v ≤ i → count ≡ others kind v
+  counting_end h = omega (arith, w.all, ap (others kind) (drop_of_length-le v h))
 
   module _ (h : i < length v) where
     here : others kind (drop i v) ≡ others kind (get_or v i 0 ∷ drop (i + 1) v)
     here = ap (others kind) (drop-cons v i 0 h ∙ ap (λ (n : ℕ). get_or v i 0 ∷ drop n v) (sym (add-one i)))
 
-    pub counting-literal : literal kind (get_or v i 0) ≡ true → Counting kind v count (i + 1)
-    counting-literal e = record { place = omega arith; few = omega (arith, w.few); all = omega (arith, rw e at here, w.all) }
+    pub counting_literal : literal kind (get_or v i 0) ≡ true → Counting kind v count (i + 1)
+    counting_literal e = record { place = omega arith; few = omega (arith, w.few); all = omega (arith, rw e at here, w.all) }
 
-    pub counting-other : literal kind (get_or v i 0) ≡ false → Counting kind v (count + 1) (i + 1)
-    counting-other e = record { place = omega arith; few = omega (arith, w.few); all = omega (arith, rw e at here, w.all) }
+    pub counting_other : literal kind (get_or v i 0) ≡ false → Counting kind v (count + 1) (i + 1)
+    counting_other e = record { place = omega arith; few = omega (arith, w.few); all = omega (arith, rw e at here, w.all) }

@@ -39,66 +39,66 @@ short_first kind (c ∷ []) h = on (λ r. r ≡ bad_text) (ltb (hex_value c) 16)
 short_first kind (c ∷ d ∷ x) h = absurd (omega arith)
 
 module _ (kind : Kind) (s : List ℕ) (i : ℕ) where
-  pub percent-short : length s - i < 2 → decode_from kind first (drop i s) ≡ bad_text
-  percent-short h = short_first kind (drop i s) (rw length-drop h)
+  pub percent_short : length s - i < 2 → decode_from kind first (drop i s) ≡ bad_text
+  percent_short h = short_first kind (drop i s) (rw length-drop h)
 
-  pub percent-first : (h : ℕ) → i < length s → h ≡ hex_value (get_or s i 0) → 16 ≤ h → decode_from kind first (drop i s) ≡ bad_text
+  pub percent_first : (h : ℕ) → i < length s → h ≡ hex_value (get_or s i 0) → 16 ≤ h → decode_from kind first (drop i s) ≡ bad_text
   unfolding decode_from
-  percent-first h p e l =
+  percent_first h p e l =
       let k : 16 ≤ hex_value (get_or s i 0) = omega arith in
       ap (decode_from kind first) (left_at s i p) ∙ rw (le-ltb (hex_value (get_or s i 0)) 16 k) refl
 
-  two-left : i + 2 ≤ length s → drop i s ≡ (get_or s i 0 ∷ get_or s (i + 1) 0 ∷ drop (i + 2) s)
-  two-left p =
+  two_left : i + 2 ≤ length s → drop i s ≡ (get_or s i 0 ∷ get_or s (i + 1) 0 ∷ drop (i + 2) s)
+  two_left p =
       let n : i + 1 + 1 ≡ i + 2 = omega arith in
       left_at s i (omega arith) ∙ ap (λ (x : List ℕ). get_or s i 0 ∷ x) (left_at s (i + 1) (omega arith) ∙ ap (λ (n : ℕ). get_or s (i + 1) 0 ∷ drop n s) n)
 
-  pub percent-second : (h l : ℕ) → i + 2 ≤ length s → h ≡ hex_value (get_or s i 0) → h < 16 → l ≡ hex_value (get_or s (i + 1) 0) → 16 ≤ l → decode_from kind first (drop i s) ≡ bad_text
+  pub percent_second : (h l : ℕ) → i + 2 ≤ length s → h ≡ hex_value (get_or s i 0) → h < 16 → l ≡ hex_value (get_or s (i + 1) 0) → 16 ≤ l → decode_from kind first (drop i s) ≡ bad_text
   unfolding decode_from
-  percent-second h l p e a f b =
+  percent_second h l p e a f b =
       let k : hex_value (get_or s i 0) < 16 = omega arith in
       let m : 16 ≤ hex_value (get_or s (i + 1) 0) = omega arith in
-      ap (decode_from kind first) (two-left p) ∙ rw (lt-ltb (hex_value (get_or s i 0)) 16 k, le-ltb (hex_value (get_or s (i + 1) 0)) 16 m) refl
+      ap (decode_from kind first) (two_left p) ∙ rw (lt-ltb (hex_value (get_or s i 0)) 16 k, le-ltb (hex_value (get_or s (i + 1) 0)) 16 m) refl
 
-  pub percent-good : (h l : ℕ) → i + 2 ≤ length s → h ≡ hex_value (get_or s i 0) → h < 16 → l ≡ hex_value (get_or s (i + 1) 0) → l < 16 → Took kind first s i (h * 16 + l) (i + 2)
+  pub percent_good : (h l : ℕ) → i + 2 ≤ length s → h ≡ hex_value (get_or s i 0) → h < 16 → l ≡ hex_value (get_or s (i + 1) 0) → l < 16 → Took kind first s i (h * 16 + l) (i + 2)
   unfolding decode_from
-  percent-good h l p e a f b =
+  percent_good h l p e a f b =
       let k : hex_value (get_or s i 0) < 16 = omega arith in
       let m : hex_value (get_or s (i + 1) 0) < 16 = omega arith in
       record {
-        is = ap (decode_from kind first) (two-left p) ∙ rw (lt-ltb (hex_value (get_or s i 0)) 16 k, lt-ltb (hex_value (get_or s (i + 1) 0)) 16 m, e, f) refl;
+        is = ap (decode_from kind first) (two_left p) ∙ rw (lt-ltb (hex_value (get_or s i 0)) 16 k, lt-ltb (hex_value (get_or s (i + 1) 0)) 16 m, e, f) refl;
         ahead = omega arith;
         inside = p;
       }
 
-  pub byte-percent : (r : Step) → i < length s → get_or s i 0 ≡ 0x25 → Stepped kind first s (i + 1) r → Stepped kind any s i r
+  pub byte_percent : (r : Step) → i < length s → get_or s i 0 ≡ 0x25 → Stepped kind first s (i + 1) r → Stepped kind any s i r
   unfolding decode_from
-  byte-percent (Byte b next) h e t = record { is = (ap (decode_from kind any) (left_at s i h) ∙ rw (eq-eqb (get_or s i 0) 0x25 e) refl) ∙ t.is; ahead = omega (arith, t.ahead); inside = t.inside }
-  byte-percent End h e t = absurd (no_text [] (sym (ap (decode_from kind first) (drop_of_length-le s t.1)) ∙ t.0))
-  byte-percent Bad h e t = (ap (decode_from kind any) (left_at s i h) ∙ rw (eq-eqb (get_or s i 0) 0x25 e) refl) ∙ t
+  byte_percent (Byte b next) h e t = record { is = (ap (decode_from kind any) (left_at s i h) ∙ rw (eq-eqb (get_or s i 0) 0x25 e) refl) ∙ t.is; ahead = omega (arith, t.ahead); inside = t.inside }
+  byte_percent End h e t = absurd (no_text [] (sym (ap (decode_from kind first) (drop_of_length-le s t.1)) ∙ t.0))
+  byte_percent Bad h e t = (ap (decode_from kind any) (left_at s i h) ∙ rw (eq-eqb (get_or s i 0) 0x25 e) refl) ∙ t
 
-  pub byte-literal : i < length s → (get_or s i 0 ≡ 0x25 → ⊥) → literal kind (get_or s i 0) ≡ true → Took kind any s i (get_or s i 0) (i + 1)
+  pub byte_literal : i < length s → (get_or s i 0 ≡ 0x25 → ⊥) → literal kind (get_or s i 0) ≡ true → Took kind any s i (get_or s i 0) (i + 1)
   unfolding decode_from
-  byte-literal h n l = record { is = ap (decode_from kind any) (left_at s i h) ∙ rw (ne_eqb (get_or s i 0) 0x25 n, l) refl; ahead = omega arith; inside = omega arith }
+  byte_literal h n l = record { is = ap (decode_from kind any) (left_at s i h) ∙ rw (ne_eqb (get_or s i 0) 0x25 n, l) refl; ahead = omega arith; inside = omega arith }
 
-  pub byte-bad : i < length s → (get_or s i 0 ≡ 0x25 → ⊥) → literal kind (get_or s i 0) ≡ false → decode_from kind any (drop i s) ≡ bad_text
+  pub byte_bad : i < length s → (get_or s i 0 ≡ 0x25 → ⊥) → literal kind (get_or s i 0) ≡ false → decode_from kind any (drop i s) ≡ bad_text
   unfolding decode_from
-  byte-bad h n l = ap (decode_from kind any) (left_at s i h) ∙ rw (ne_eqb (get_or s i 0) 0x25 n, l) refl
+  byte_bad h n l = ap (decode_from kind any) (left_at s i h) ∙ rw (ne_eqb (get_or s i 0) 0x25 n, l) refl
 
 -- The digits of a percent code.
 percented : (kind : Kind) (s : List ℕ) (i : ℕ) → i ≤ length s → Stepped kind first s i (percent_at s i)
 unfolding percent_at
 percented kind s i p =
-    on_lt (Stepped kind first s i) (length s - i) 2 (λ h. percent-short kind s i h)
+    on_lt (Stepped kind first s i) (length s - i) 2 (λ h. percent_short kind s i h)
     (λ h. digits h)
   where
     digits : 2 ≤ length s - i → Stepped kind first s i (pick (both (ltb (hex_value (get_or s i 0)) 16) (ltb (hex_value (get_or s (i + 1) 0)) 16)) (Byte (hex_value (get_or s i 0) * 16 + hex_value (get_or s (i + 1) 0)) (i + 2)) Bad)
     digits h =
         by_lt (hex_value (get_or s i 0)) 16
         (λ a. by_lt (hex_value (get_or s (i + 1) 0)) 16
-        (λ b. rw (lt-ltb (hex_value (get_or s i 0)) 16 a, lt-ltb (hex_value (get_or s (i + 1) 0)) 16 b) (percent-good kind s i _ _ (omega arith) refl a refl b))
-        (λ b. rw (lt-ltb (hex_value (get_or s i 0)) 16 a, le-ltb (hex_value (get_or s (i + 1) 0)) 16 b) (percent-second kind s i _ _ (omega arith) refl a refl b)))
-        (λ a. rw (le-ltb (hex_value (get_or s i 0)) 16 a) (percent-first kind s i _ (omega arith) refl a))
+        (λ b. rw (lt-ltb (hex_value (get_or s i 0)) 16 a, lt-ltb (hex_value (get_or s (i + 1) 0)) 16 b) (percent_good kind s i _ _ (omega arith) refl a refl b))
+        (λ b. rw (lt-ltb (hex_value (get_or s i 0)) 16 a, le-ltb (hex_value (get_or s (i + 1) 0)) 16 b) (percent_second kind s i _ _ (omega arith) refl a refl b)))
+        (λ a. rw (le-ltb (hex_value (get_or s i 0)) 16 a) (percent_first kind s i _ (omega arith) refl a))
 
 -- What stands at a place, and what it leaves to be decoded.
 pub stepped : (kind : Kind) (s : List ℕ) (i : ℕ) → Stepped kind any s i (step_at kind s i)
@@ -106,8 +106,8 @@ unfolding step_at decode_from
 stepped kind s i =
     on_le (Stepped kind any s i) (length s) i (λ h. (ap (decode_from kind any) (drop_of_length-le s h), h))
     (λ h. on_eq (Stepped kind any s i) (get_or s i 0) 0x25
-    (λ e. byte-percent kind s i (percent_at s (i + 1)) h e (percented kind s (i + 1) (omega arith)))
-    (λ n. on (Stepped kind any s i) (literal kind (get_or s i 0)) (λ l. byte-literal kind s i h n l) (λ l. byte-bad kind s i h n l)))
+    (λ e. byte_percent kind s i (percent_at s (i + 1)) h e (percented kind s (i + 1) (omega arith)))
+    (λ n. on (Stepped kind any s i) (literal kind (get_or s i 0)) (λ l. byte_literal kind s i h n l) (λ l. byte_bad kind s i h n l)))
 
 pub took : (kind : Kind) (s : List ℕ) (i b next : ℕ) (r : Step) → r ≡ step_at kind s i → r ≡ Byte b next → Took kind any s i b next
 took kind s i b next r t e = subst (Stepped kind any s i) (sym t ∙ e) (stepped kind s i)

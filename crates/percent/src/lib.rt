@@ -1,6 +1,7 @@
 // Bytes as the text of a path segment or of a query part, both ways: characters that stand literally, and percent codes for
 // all others (RFC 3986, section 2.1).
 #![tactic(auto)]
+
 ghost use Rattle.std.specs.Prelude.{◌≡◌, ◌<◌, ◌≤◌, length};
 ghost use Rattle.rfc.specs.Uri.{segment, query, literal};
 ghost use Rattle.rfc.specs.Percent.{hex_digit, hex_value, coded, code};

@@ -10,11 +10,11 @@ use lib.Seq.{sets, set-set, set_comm, get_or-set_same, get_or-set_other, take-su
 use Rattle.ground.proofs.Choice.{by_lt}
 use Rattle.ground.proofs.Part.{sets_append}
 use Rattle.placing.specs.Put.{Puts, Put}
-use Rattle.placing.proofs.Puts.{put-none}
+use Rattle.placing.proofs.Puts.{put_none}
 
 -- No byte is put.
 pub no_bytes : (l : List ℕ) (at : ℕ) (bytes : List ℕ) → length bytes ≡ 0 → Put l at bytes at l
-no_bytes l at [] h = put-none l at
+no_bytes l at [] h = put_none l at
 no_bytes l at (x ∷ bytes) h = absurd (omega arith)
 
 -- One byte more stands in the array.

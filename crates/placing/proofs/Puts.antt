@@ -82,8 +82,8 @@ whole_puts {l = l} {vs = vs} {at = at} p h =
 
 -- No byte, one and two, put whole.
 module _ (l : List ℕ) (at : ℕ) where
-  pub put-none : Put l at [] at l
-  put-none = record { next = sym (add-zero at); out = refl }
+  pub put_none : Put l at [] at l
+  put_none = record { next = sym (add-zero at); out = refl }
 
   pub put_one : (v : ℕ) → Put l at (v ∷ []) (at + 1) (set l at v)
   put_one v = record { next = refl; out = refl }

@@ -1,6 +1,7 @@
 // Bytes and shortest uints put into a lent output at a place, with the place after them as the answer. What no longer fits into
 // the output is cut off.
 #![tactic(auto)]
+
 ghost use Rattle.std.specs.Prelude.{◌≡◌, [], ◌∷◌, ◌+◌, ◌-◌, ◌*◌, ◌≤◌, ◌<◌, min, length, take};
 ghost use Rattle.rfc.specs.Uint.{uint};
 ghost use Rattle.placing.specs.Put.{Puts, Put};

@@ -1,6 +1,7 @@
 // Plans the rest of images, and checks plans: reads one image to a line on standard input, and writes its plan, a picture and
 // the verdict to standard output.
 #![tactic(auto)]
+
 use libc::STDIN_FILENO;
 use output::flushed;
 use placing::put_bytes;

@@ -67,19 +67,19 @@ says_agree false true e = sym e
 says_agree false false e = refl
 
 module _ (size : ℕ) (held : List ℕ) (bs : List Block) where
-  fetched-says : (u : ℕ) → fetched held bs u ≡ true → over u bs ≡ pick (missing held u) 1 0
-  fetched-says u t = eqb-true (over u bs) (pick (missing held u) 1 0) t
+  fetched_says : (u : ℕ) → fetched held bs u ≡ true → over u bs ≡ pick (missing held u) 1 0
+  fetched_says u t = eqb-true (over u bs) (pick (missing held u) 1 0) t
 
-  fetched-missing : (u : ℕ) → fetched held bs u ≡ true → get_or held u 0 ≡ 0 → over u bs ≡ 1
-  fetched-missing u t z = rw (eq-eqb (get_or held u 0) 0 z) at (fetched-says u t)
+  fetched_missing : (u : ℕ) → fetched held bs u ≡ true → get_or held u 0 ≡ 0 → over u bs ≡ 1
+  fetched_missing u t z = rw (eq-eqb (get_or held u 0) 0 z) at (fetched_says u t)
 
-  fetched-held : (u : ℕ) → fetched held bs u ≡ true → (get_or held u 0 ≡ 0 → ⊥) → over u bs ≡ 0
-  fetched-held u t z = rw (ne_eqb (get_or held u 0) 0 z) at (fetched-says u t)
+  fetched_held : (u : ℕ) → fetched held bs u ≡ true → (get_or held u 0 ≡ 0 → ⊥) → over u bs ≡ 0
+  fetched_held u t z = rw (ne_eqb (get_or held u 0) 0 z) at (fetched_says u t)
 
   -- An accepted plan meets the conditions.
-  pub accepted-says : accepted size held bs ≡ true → Accepted size held bs
+  pub accepted_says : accepted size held bs ≡ true → Accepted size held bs
   unfolding accepted
-  accepted-says t =
+  accepted_says t =
       let a = both_true (each strict bs) _ t in
       let b = both_true (rising bs) _ a.1 in
       let c = both_true (each (inside held) bs) _ b.1 in
@@ -88,15 +88,15 @@ module _ (size : ℕ) (held : List ℕ) (bs : List Block) where
         strict = each_says strict Valid strict_says bs a.0;
         rising = rising_says bs b.0;
         inside = each_says (inside held) (λ (x : Block). start x < length held) (λ x e. ltb-true (start x) (length held) e) bs c.0;
-        once = λ u m. fetched-missing u (below_says (length held) (fetched held bs) d.0 u m.exists) m.zero;
-        free = λ u m. fetched-held u (below_says (length held) (fetched held bs) d.0 u m.exists) m.other;
+        once = λ u m. fetched_missing u (below_says (length held) (fetched held bs) d.0 u m.exists) m.zero;
+        free = λ u m. fetched_held u (below_says (length held) (fetched held bs) d.0 u m.exists) m.other;
         more = each_says (flagged size) (Flagged size) (λ x e. agree_says (ltb (stop x * 16) size) x.more e) bs d.1;
       }
 
   -- A plan that meets them is accepted.
-  pub says-accepted : Accepted size held bs → accepted size held bs ≡ true
+  pub says_accepted : Accepted size held bs → accepted size held bs ≡ true
   unfolding accepted
-  says-accepted a =
+  says_accepted a =
       true_both (each strict bs) _ (says_each strict Valid says_strict bs a.strict)
       (true_both (rising bs) _ (says_rising bs a.rising)
       (true_both (each (inside held) bs) _ (says_each (inside held) (λ (x : Block). start x < length held) (λ x e. lt-ltb (start x) (length held) e) bs a.inside)
@@ -110,17 +110,17 @@ module _ (size : ℕ) (held : List ℕ) (bs : List Block) where
 
 module _ (size : ℕ) (held values : List ℕ) where
   -- Done exactly where size and held list fit and the plan meets the conditions.
-  pub good-done : Good size held values → checking size held values ≡ given tt
+  pub good_done : Good size held values → checking size held values ≡ given tt
   unfolding checking
-  good-done g = rw (g.image, says-accepted size held (map block_of values) g.plan) refl
+  good_done g = rw (g.image, says_accepted size held (map block_of values) g.plan) refl
 
-  pub done-good : checking size held values ≡ given tt → Good size held values
+  pub done_good : checking size held values ≡ given tt → Good size held values
   unfolding checking
-  done-good =
+  done_good =
       on (λ (a : Answer (Unit {0})). a ≡ given tt → Good size held values) (both (fits size held) (accepted size held (map block_of values)))
       (λ t _.
       let h = both_true (fits size held) (accepted size held (map block_of values)) t in
-      record { image = h.0; plan = accepted-says size held (map block_of values) h.1 })
+      record { image = h.0; plan = accepted_says size held (map block_of values) h.1 })
       (λ _ e. absurd (let z : ◌≡◌ {A = ℕ} 0 1 = cc in omega arith))
 
   -- Else 22.
@@ -130,4 +130,4 @@ module _ (size : ℕ) (held values : List ℕ) where
       on (λ (a : Answer (Unit {0})). a ≡ refused 22) (both (fits size held) (accepted size held (map block_of values)))
       (λ t.
       let h = both_true (fits size held) (accepted size held (map block_of values)) t in
-      absurd (n (record { image = h.0; plan = accepted-says size held (map block_of values) h.1 }))) (λ _. refl)
+      absurd (n (record { image = h.0; plan = accepted_says size held (map block_of values) h.1 }))) (λ _. refl)

@@ -140,8 +140,8 @@ module _ (size : ℕ) (held : List ℕ) where
     more = tt;
   }
 
-  pub none-missing : (at : ℕ) → From size held at [] → NoneMissing held at (length held)
-  none-missing at f u l h m = let z : ◌≡◌ {A = ℕ} 0 1 = f.once u l m in omega (arith, z)
+  pub none_missing : (at : ℕ) → From size held at [] → NoneMissing held at (length held)
+  none_missing at f u l h m = let z : ◌≡◌ {A = ℕ} 0 1 = f.once u l m in omega (arith, z)
 
   -- A plan from unit 0 on is an accepted plan.
   pub accepted : (bs : List Block) → From size held 0 bs → Accepted size held bs

@@ -11,7 +11,7 @@ use Rattle.plan_checking.specs.Accepted.{Accepted}
 use Rattle.plan_checking.specs.Plan.{stop}
 use Rattle.image.specs.Image.{NoneMissing}
 use Rattle.plan_checking.specs.Steps.{Next}
-use Rattle.plan_checking.proofs.From.{From, grow, first, others, none, none-missing, accepted, from_start}
+use Rattle.plan_checking.proofs.From.{From, grow, first, others, none, none_missing, accepted, from_start}
 
 module _ (size : ℕ) (held plan : List ℕ) where
   pub record Left (at k : ℕ) : Type 0 where
@@ -47,4 +47,4 @@ module _ (size : ℕ) (held plan : List ℕ) where
     at_end n = l.enough (rw done (none size held at n))
 
     pub not_end : Accepted size held (map block_of plan) → NoneMissing held at (length held)
-    not_end a = none-missing size held at (rw done at (l.needed a))
+    not_end a = none_missing size held at (rw done at (l.needed a))

@@ -6,7 +6,7 @@ use mathlib.Core.List.{List}
 use native.Mathlib.Omega.{arith}
 use Rattle.ground.specs.Part.{part}
 use Rattle.image.specs.Image.{alike, NoneMissing, NoneHeld}
-use Rattle.image.proofs.Spans.{held_to, to_held, missing-to, to-missing}
+use Rattle.image.proofs.Spans.{held_to, to_held, missing_to, to_missing}
 use Rattle.plan_checking.specs.Steps.{Decides, yes, no}
 
 pub decides : (P : Type 0) (t : Bool) → (t ≡ true → P) → (t ≡ false → P → ⊥) → Decides P t
@@ -40,8 +40,8 @@ clash p q = let k : ◌≡◌ {A = ℕ} 0 1 = cc in omega arith
 
 -- What `all_are` answers.
 module _ (held : List ℕ) (from to : ℕ) {t : Bool} where
-  pub asked-held : t ≡ alike false (part held from (to - from)) → Decides (NoneMissing held from to) t
-  asked-held e = decides (NoneMissing held from to) t (λ y. held_to held from to (sym e ∙ y)) (λ n f. clash (e ∙ to_held held from to f) n)
+  pub asked_held : t ≡ alike false (part held from (to - from)) → Decides (NoneMissing held from to) t
+  asked_held e = decides (NoneMissing held from to) t (λ y. held_to held from to (sym e ∙ y)) (λ n f. clash (e ∙ to_held held from to f) n)
 
-  pub asked-missing : t ≡ alike true (part held from (to - from)) → Decides (NoneHeld held from to) t
-  asked-missing e = decides (NoneHeld held from to) t (λ y. missing-to held from to (sym e ∙ y)) (λ n f. clash (e ∙ to-missing held from to f) n)
+  pub asked_missing : t ≡ alike true (part held from (to - from)) → Decides (NoneHeld held from to) t
+  asked_missing e = decides (NoneHeld held from to) t (λ y. missing_to held from to (sym e ∙ y)) (λ n f. clash (e ∙ to_missing held from to f) n)

@@ -1,5 +1,6 @@
 // The check of a plan: whether a list of strict block values fetches each missing unit of an image once, and nothing else.
 #![tactic(auto)]
+
 ghost use Rattle.std.specs.Prelude.{◌<◌};
 ghost use Rattle.rfc.specs.Block.{Valid, block_of};
 ghost use Rattle.plan_checking.specs.Plan.{start, stop, Checks};

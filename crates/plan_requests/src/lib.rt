@@ -1,5 +1,6 @@
 // Requests on plans: our plan of an image, and the check of one that is given.
 #![tactic(auto)]
+
 mod checked;
 mod made;
 

@@ -50,15 +50,15 @@ module _ (size : ℕ) (held old : List ℕ) (r : Written) (new : List ℕ) (prom
   pub wrote : take n new ≡ values size held
   wrote = ap (take n) new_is ∙ front_after old (values size held) n room
 
-  pub rest-kept : new ≡ values size held ++ drop n old
-  rest-kept =
+  pub rest_kept : new ≡ values size held ++ drop n old
+  rest_kept =
       let m : length (values size held) ≡ n = fitted_length old (values size held) n room in
       new_is ∙ (fitted_output old (values size held) n room ∙ ap (λ (k : ℕ). values size held ++ drop k old) m)
 
 module _ (size : ℕ) (held old : List ℕ) where
-  pub bad-image : fits size held ≡ false → Plans size held old (Refused BadPlan) old
+  pub bad_image : fits size held ≡ false → Plans size held old (Refused BadPlan) old
   unfolding planning
-  bad-image e = record { answer = rw e refl; list = rw e refl }
+  bad_image e = record { answer = rw e refl; list = rw e refl }
 
   module _ (fit : fits size held ≡ true) where
     -- The lent list is too short, and left alone; or it has the plan in front.

@@ -41,12 +41,12 @@ may_pair unit h k rest e p q = rw (eq-eqb (unit % 2) 0 e, eq-eqb h 0 p, eq-eqb k
 
 module _ (size : ℕ) where
   -- A block of more units than one covers the second unit; a block of one stands before a held unit.
-  after-missing : (x k : ℕ) (rest : List ℕ) (unit : ℕ) → (x ≡ 0 → k ≡ 0 → ⊥) → ((m : ℕ) → m % 2 ≡ 0 → length (plan_from size (suc (suc unit)) m rest) ≤ (length rest + 1) / 2) → suc (length (plan_from size (suc unit) (2 ^ x - 1) (k ∷ rest))) ≤ (length rest + 3) / 2
+  after_missing : (x k : ℕ) (rest : List ℕ) (unit : ℕ) → (x ≡ 0 → k ≡ 0 → ⊥) → ((m : ℕ) → m % 2 ≡ 0 → length (plan_from size (suc (suc unit)) m rest) ≤ (length rest + 1) / 2) → suc (length (plan_from size (suc unit) (2 ^ x - 1) (k ∷ rest))) ≤ (length rest + 3) / 2
   unfolding plan_from
-  after-missing zero k rest unit n f =
+  after_missing zero k rest unit n f =
       on_eq (λ (bs : List Block). suc (length bs) ≤ (length rest + 3) / 2) k 0 (λ q. absurd (n refl q))
       (λ _. omega (arith, f 0 refl))
-  after-missing (suc y) k rest unit n f =
+  after_missing (suc y) k rest unit n f =
       let e : 2 ^ suc y - 1 ≡ suc (2 ^ suc y - 2) = omega (arith, two-pow-succ y, pow_pos y) in
       rw e (omega (arith, f (2 ^ suc y - 2) (omega (arith, two-pow-succ y, pow_pos y))))
 
@@ -66,7 +66,7 @@ module _ (size : ℕ) where
       on_eq (λ (bs : List Block). length bs ≤ (length (h ∷ k ∷ rest) + 1) / 2) h 0
       (λ p.
       let m : suc (length (plan_from size (suc unit) (2 ^ largest unit (h ∷ k ∷ rest) - 1) (k ∷ rest))) ≤ (length rest + 3) / 2 =
-      after-missing (largest unit (h ∷ k ∷ rest)) k rest unit
+      after_missing (largest unit (h ∷ k ∷ rest)) k rest unit
       (λ z q. omega (arith, pair 5 unit (h ∷ k ∷ rest) (may_pair unit h k rest u p q))) on-two
       in
       omega (arith, m))
@@ -77,6 +77,6 @@ module _ (size : ℕ) where
       rw z (omega (arith, on-two 0 refl)))
       (λ _. omega (arith, on-two 0 refl)))
 
-  pub half-as-many : (held : List ℕ) → length (planned size held) ≤ (length held + 1) / 2
+  pub half_as_many : (held : List ℕ) → length (planned size held) ≤ (length held + 1) / 2
   unfolding planned
-  half-as-many held = halved held 0 0 refl refl
+  half_as_many held = halved held 0 0 refl refl

@@ -10,33 +10,33 @@ use lib.Seq.{sets}
 use Rattle.rfc.specs.Block.{Block, block_number}
 use Rattle.planning.specs.Planner.{block_at, planned, values, Largest}
 use Rattle.placing.specs.Put.{Put}
-use Rattle.planning.proofs.Planned.{onward, ended, at_held, at-missing}
+use Rattle.planning.proofs.Planned.{onward, ended, at_held, at_missing}
 
 onward_missing : (size : ℕ) (held : List ℕ) (u e w : ℕ) → u < length held → get_or held u 0 ≡ 0 → Largest held u e w → onward size held u ≡ block_at size u e ∷ onward size held (u + w)
-onward_missing size held u e w h z l = rw l.wide.is (at-missing size held u h e l.is z)
+onward_missing size held u e w h z l = rw l.wide.is (at_missing size held u h e l.is z)
 
 module _ (held : List ℕ) where
   pub record Counted (u count : ℕ) : Type 0 where
     pub few : count ≤ u
     pub rest : (size : ℕ) → count + length (onward size held u) ≡ length (planned size held)
 
-  pub none-counted : Counted 0 0
+  pub none_counted : Counted 0 0
   unfolding planned
-  none-counted = record { few = omega arith; rest = λ size. omega arith }
+  none_counted = record { few = omega arith; rest = λ size. omega arith }
 
   module _ (u count : ℕ) (c : Counted u count) where
-    pub all-counted : length held ≤ u → (size : ℕ) → count ≡ length (planned size held)
-    all-counted h size = omega (arith, c.rest size, ap length (ended size held u h))
+    pub all_counted : length held ≤ u → (size : ℕ) → count ≡ length (planned size held)
+    all_counted h size = omega (arith, c.rest size, ap length (ended size held u h))
 
     module _ (h : u < length held) where
-      pub held-counted : (get_or held u 0 ≡ 0 → ⊥) → Counted (u + 1) count
-      held-counted n = record {
+      pub held_counted : (get_or held u 0 ≡ 0 → ⊥) → Counted (u + 1) count
+      held_counted n = record {
         few = omega (arith, c.few);
         rest = λ size. omega (arith, c.rest size, ap length (at_held size held u h n));
       }
 
-      pub block-counted : (e w : ℕ) → get_or held u 0 ≡ 0 → Largest held u e w → Counted (u + w) (count + 1)
-      block-counted e w z l = record {
+      pub block_counted : (e w : ℕ) → get_or held u 0 ≡ 0 → Largest held u e w → Counted (u + w) (count + 1)
+      block_counted e w z l = record {
         few = omega (arith, c.few, l.wide.least);
         rest = λ size. omega (arith, c.rest size, ap length (onward_missing size held u e w h z l));
       }
@@ -48,9 +48,9 @@ module _ (size : ℕ) (held old : List ℕ) where
     pub count : k + length (onward size held u) ≡ length (planned size held)
     pub rest : sets out k (map block_number (onward size held u)) ≡ sets old 0 (values size held)
 
-  pub none-put : length (planned size held) ≤ length old → Putting old 0 0
+  pub none_put : length (planned size held) ≤ length old → Putting old 0 0
   unfolding planned
-  none-put r = record { same = refl; room = r; count = omega arith; rest = refl }
+  none_put r = record { same = refl; room = r; count = omega arith; rest = refl }
 
   module _ (out : List ℕ) (u k : ℕ) (p : Putting out u k) where
     pub all_put : length held ≤ u → Put old 0 (values size held) k out
@@ -60,8 +60,8 @@ module _ (size : ℕ) (held old : List ℕ) where
     }
 
     module _ (h : u < length held) where
-      pub held-put : (get_or held u 0 ≡ 0 → ⊥) → Putting out (u + 1) k
-      held-put n =
+      pub held_put : (get_or held u 0 ≡ 0 → ⊥) → Putting out (u + 1) k
+      held_put n =
           let e : onward size held u ≡ onward size held (u + 1) = at_held size held u h n in
           record { same = p.same; room = p.room; count = omega (arith, p.count, ap length e); rest = ap (λ (bs : List Block). sets out k (map block_number bs)) (sym e) ∙ p.rest }
 
@@ -72,8 +72,8 @@ module _ (size : ℕ) (held old : List ℕ) where
         pub place : k < length out
         place = omega (arith, p.room, p.same, p.count, ap length next)
 
-        pub block-put : (v : ℕ) → v ≡ block_number (block_at size u e) → Putting (set out k v) (u + w) (k + 1)
-        block-put v i = record {
+        pub block_put : (v : ℕ) → v ≡ block_number (block_at size u e) → Putting (set out k v) (u + w) (k + 1)
+        block_put v i = record {
           same = length-set out k v ∙ p.same;
           room = p.room;
           count = omega (arith, p.count, ap length next);

@@ -19,7 +19,7 @@ use Rattle.planning.specs.Planner.{largest, block_at, plan_from, planned, values
 use Rattle.plan_checking.specs.Steps.{Next}
 use Rattle.plan_checking.proofs.From.{From, grow, none, pass, accepted}
 use Rattle.image.proofs.Fitting.{few_units}
-use Rattle.planning.proofs.Largest.{Open, one-open, largest-open, largest-bound}
+use Rattle.planning.proofs.Largest.{Open, one_open, largest_open, largest_bound}
 
 -- A block at a multiple of its width starts there.
 pub starts_at : (size unit e : ℕ) → unit % 2 ^ e ≡ 0 → start (block_at size unit e) ≡ unit
@@ -61,8 +61,8 @@ module _ (size : ℕ) (held : List ℕ) (few : length held ≤ 65536) where
         (on_eq (From size held unit) h 0
         (λ z.
         let x : ℕ = largest unit (h ∷ hs) in
-        let o : Open held unit x = rw e at (largest-open held unit 6 (one-open held unit (head_is held h hs unit e ∙ z))) in
-        let small : x ≤ 6 = rw e at (largest-bound held unit 6) in
+        let o : Open held unit x = rw e at (largest_open held unit 6 (one_open held unit (head_is held h hs unit e ∙ z))) in
+        let small : x ≤ 6 = rw e at (largest_bound held unit 6) in
         let i : start (block_at size unit x) ≡ unit = starts_at size unit x o.divides in
         let far : suc unit + (2 ^ x - 1) ≡ stop (block_at size unit x) = omega (arith, i, pow_pos x) in
         grow size held unit (block_at size unit x) (plan_from size (suc unit) (2 ^ x - 1) hs) (open_next unit x (there held h hs unit e) small o) (rw far at (f (2 ^ x - 1))))
@@ -80,12 +80,12 @@ read_back (b ∷ bs) v = rw (block_number_lem b (omega (arith, v.0.szx)), read_b
 
 module _ (size : ℕ) (held : List ℕ) (fit : fits size held ≡ true) where
   -- Our plan of every image is accepted, and the check says so of its values.
-  pub ours-accepted : Accepted size held (planned size held)
+  pub ours_accepted : Accepted size held (planned size held)
   unfolding planned
-  ours-accepted = accepted size held (planned size held) (made size held (few_units size held fit) held 0 0 refl)
+  ours_accepted = accepted size held (planned size held) (made size held (few_units size held fit) held 0 0 refl)
 
-  pub read-ours : map block_of (values size held) ≡ planned size held
-  read-ours = read_back (planned size held) ours-accepted.strict
+  pub read_ours : map block_of (values size held) ≡ planned size held
+  read_ours = read_back (planned size held) ours_accepted.strict
 
-  pub ours-good : Good size held (values size held)
-  ours-good = record { image = fit; plan = rw read-ours ours-accepted }
+  pub ours_good : Good size held (values size held)
+  ours_good = record { image = fit; plan = rw read_ours ours_accepted }

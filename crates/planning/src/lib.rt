@@ -1,5 +1,6 @@
 // Our planner: which blocks to ask for, so that each missing unit of an image is fetched once, in blocks as large as may be.
 #![tactic(auto)]
+
 ghost use Rattle.std.specs.Prelude.{◌≡◌, ℕ, ◌<◌, ◌≤◌, length, get_or};
 ghost use Rattle.rfc.specs.Block.{block_number};
 ghost use Rattle.placing.specs.Put.{Put};

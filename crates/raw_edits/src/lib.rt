@@ -1,5 +1,6 @@
 // Requests on the getters of a raw packet, and on its edits.
 #![tactic(auto)]
+
 mod edited;
 mod reply;
 

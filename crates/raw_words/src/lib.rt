@@ -1,5 +1,6 @@
 // Raw packets as words, both ways: two stores, and ranges that need not be inside them.
 #![tactic(auto)]
+
 mod read;
 mod shown;
 

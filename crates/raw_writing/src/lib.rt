@@ -1,5 +1,6 @@
 // Requests to write a raw packet, and to check one by the register.
 #![tactic(auto)]
+
 mod written;
 
 use packet_requests::check;

@@ -108,9 +108,9 @@ module _ (strict : Bool) (s : List ℕ) (b : Bytes s) (p : Packet) (k : Taken st
   pub means : (edits : List ℕ) → meaning (stores s edits) p ≡ meant s k.raw k.tail
   means edits = ap (meaning (stores s edits)) k.packet ∙ is_meant s edits k.raw k.tail found.homes
 
-  head-laid : header_layout (meant s k.raw k.tail) ≡ take 4 s
+  head_laid : header_layout (meant s k.raw k.tail) ≡ take 4 s
   unfolding header_layout meant
-  head-laid =
+  head_laid =
       let v : ℕ = k.raw.ver_type_tkl in
       let first : v / 64 * 64 + v / 16 % 4 * 16 + v % 16 ≡ v = omega arith in
       rw (inside_length s 4 (token_of k.raw) k.token_inside, first) (bytes_back s k.raw b k.header)
@@ -126,28 +126,28 @@ module _ (strict : Bool) (s : List ℕ) (b : Bytes s) (p : Packet) (k : Taken st
       let body : token ++ (os ++ (payload ++ marks (bare s t) [])) ≡ drop 4 s =
       rw (payload_layout_lem s t.marked t.payload found.inside found.unmarked, ← found.bytes)
       (sym (inside_split s 4 (token_of k.raw) k.token_inside)) in
-      rw (head-laid, append_assoc (take 4 s) (token ++ (os ++ payload)) (marks (bare s t) []), append_assoc token (os ++ payload) (marks (bare s t) []), append_assoc os payload (marks (bare s t) []), body) (take-append-drop 4 s)
+      rw (head_laid, append_assoc (take 4 s) (token ++ (os ++ payload)) (marks (bare s t) []), append_assoc token (os ++ payload) (marks (bare s t) []), append_assoc os payload (marks (bare s t) []), body) (take-append-drop 4 s)
 
-  head-unpaid : header_layout (unpaid (meant s k.raw k.tail)) ≡ take 4 s
+  head_unpaid : header_layout (unpaid (meant s k.raw k.tail)) ≡ take 4 s
   unfolding header_layout meant
-  head-unpaid = head-laid
+  head_unpaid = head_laid
 
   -- Without its payload it is laid out as what stands before the end of its options.
-  pub laid-before : layout (unpaid (meant s k.raw k.tail)) ++ marks k.tail.marked (drop k.tail.payload s) ≡ s
+  pub laid_before : layout (unpaid (meant s k.raw k.tail)) ++ marks k.tail.marked (drop k.tail.payload s) ≡ s
   unfolding layout meant
-  laid-before =
+  laid_before =
       let t = k.tail in
       let token = bytes_in s 4 (token_of k.raw) in
       let os = options_layout 0 (map (option_in s) t.records) in
       let rest = marks t.marked (drop t.payload s) in
       let body : token ++ ((os ++ []) ++ rest) ≡ drop 4 s = rw (append-nil os, ← found.bytes) (sym (inside_split s 4 (token_of k.raw) k.token_inside)) in
-      rw (head-unpaid, append_assoc (take 4 s) (token ++ (os ++ [])) rest, append_assoc token (os ++ []) rest, body) (take-append-drop 4 s)
+      rw (head_unpaid, append_assoc (take 4 s) (token ++ (os ++ [])) rest, append_assoc token (os ++ []) rest, body) (take-append-drop 4 s)
 
 -- What strict accepts besides.
 module _ (s : List ℕ) (b : Bytes s) (p : Packet) (k : Taken true s p) where
-  nothing-more : k.raw.code ≡ 0 → Bare (meant s k.raw k.tail)
+  nothing_more : k.raw.code ≡ 0 → Bare (meant s k.raw k.tail)
   unfolding meant
-  nothing-more e =
+  nothing_more e =
       let f = found true s b p k in
       let token = token_of k.raw in
       let short : length s ≤ 4 = k.empty refl e in
@@ -175,7 +175,7 @@ module _ (s : List ℕ) (b : Bytes s) (p : Packet) (k : Taken true s p) where
         rising = f.rising;
         options = f.options;
         payload = inside_are s k.tail.payload (length s - k.tail.payload) b (omega (arith, f.inside));
-        empty = nothing-more;
+        empty = nothing_more;
       }
 
   accepts : (edits : List ℕ) → WellFormed (meaning (stores s edits) p) × (layout (meaning (stores s edits) p) ≡ s)

@@ -12,7 +12,7 @@ use borrow.Author.Tests.{lt-ltb, le-ltb, le-leb, lt-leb, eq-eqb, ne_eqb}
 use Rattle.ground.specs.Choice.{both, either}
 use Rattle.rfc.specs.Message.{Opt, Message, WellFormed, Bare, Rising, Options, layout, header_layout, options_layout, payload_layout, option_layout, nibble_of, extension_of}
 use Rattle.ground.proofs.Choice.{by_lt, by_eq}
-use Rattle.rfc.proofs.Message.{nibble-none, nibble-one, nibble-two, extension-none, extension-one, extension-two, nibble-small}
+use Rattle.rfc.proofs.Message.{nibble_none, nibble_one, nibble_two, extension_none, extension_one, extension_two, nibble_small}
 use Rattle.refusal.specs.Answer.{given}
 use Rattle.packet.specs.Packet.{stores, bytes_in}
 use Rattle.packet.specs.Meaning.{meaning}
@@ -26,7 +26,7 @@ use Rattle.reading.specs.Reading.{packet_of, finished, after_header, reading}
 use Rattle.option_reading.specs.Option.{option, extended, value_at, length_at, option_at, place_at, end}
 use Rattle.reading.specs.Options.{Tail, options}
 use Rattle.reading.proofs.Sound.{option_in, InDatagram, inside_bytes}
-use Rattle.reading.proofs.Walk.{options-ended, options-more}
+use Rattle.reading.proofs.Walk.{options_ended, options_more}
 use Rattle.reading.proofs.Accept.{rest_bytes, meant, is_meant}
 
 -- What stands from a position: some bytes and then the rest.
@@ -47,31 +47,31 @@ module _ (s : List ℕ) (at : ℕ) (x rest : List ℕ) (e : drop at s ≡ x ++ r
 module _ (over most : ℕ) (s : List ℕ) (at n : ℕ) (rest : List ℕ) (e : drop at s ≡ extension_of n ++ rest) (inside : at ≤ length s) (small : n ≤ 65804) (under : n ≤ most) where
   read_none : n < 13 → extended over most s at (nibble_of n) ≡ given (record { value = n; next = at + length (extension_of n) })
   unfolding extended
-  read_none h = rw (nibble-none n h, extension-none n h, lt-ltb n 13 h, add-zero at) refl
+  read_none h = rw (nibble_none n h, extension_none n h, lt-ltb n 13 h, add-zero at) refl
 
   read_one : 13 ≤ n → n < 269 → extended over most s at (nibble_of n) ≡ given (record { value = n; next = at + length (extension_of n) })
   unfolding extended
   read_one h l =
-      let x = extension-one n h l in
+      let x = extension_one n h l in
       let e' : drop at s ≡ ((n - 13) ∷ []) ++ rest = e ∙ ap (λ (v : List ℕ). v ++ rest) x in
       let room : 1 ≤ length s - at = omega (arith, fits s at ((n - 13) ∷ []) rest e' inside) in
       let b : get_or s (at + 0) 0 ≡ n - 13 = byte s at ((n - 13) ∷ []) rest e' inside 0 (omega arith) in
       let v : 13 + get_or s at 0 ≡ n = omega (arith, rw add-zero at b) in
-      rw (nibble-one n h l, x, le-ltb (length s - at) 1 room, v) refl
+      rw (nibble_one n h l, x, le-ltb (length s - at) 1 room, v) refl
 
-  read-two : 269 ≤ n → extended over most s at (nibble_of n) ≡ given (record { value = n; next = at + length (extension_of n) })
+  read_two : 269 ≤ n → extended over most s at (nibble_of n) ≡ given (record { value = n; next = at + length (extension_of n) })
   unfolding extended
-  read-two h =
-      let x = extension-two n h in
+  read_two h =
+      let x = extension_two n h in
       let e' : drop at s ≡ (((n - 269) / 256) ∷ ((n - 269) % 256) ∷ []) ++ rest = e ∙ ap (λ (v : List ℕ). v ++ rest) x in
       let room : 2 ≤ length s - at = omega (arith, fits s at (((n - 269) / 256) ∷ ((n - 269) % 256) ∷ []) rest e' inside) in
       let b : get_or s (at + 0) 0 ≡ (n - 269) / 256 = byte s at (((n - 269) / 256) ∷ ((n - 269) % 256) ∷ []) rest e' inside 0 (omega arith) in
       let d : get_or s (at + 1) 0 ≡ (n - 269) % 256 = byte s at (((n - 269) / 256) ∷ ((n - 269) % 256) ∷ []) rest e' inside 1 (omega arith) in
       let v : 269 + (get_or s at 0 * 256 + get_or s (at + 1) 0) ≡ n = omega (arith, rw add-zero at b, d) in
-      rw (nibble-two n h, x, le-ltb (length s - at) 2 room, v, le-ltb most n under) refl
+      rw (nibble_two n h, x, le-ltb (length s - at) 2 room, v, le-ltb most n under) refl
 
-  pub reads-back : extended over most s at (nibble_of n) ≡ given (record { value = n; next = at + length (extension_of n) })
-  reads-back = by_lt n 13 read_none (λ h. by_lt n 269 (read_one h) read-two)
+  pub reads_back : extended over most s at (nibble_of n) ≡ given (record { value = n; next = at + length (extension_of n) })
+  reads_back = by_lt n 13 read_none (λ h. by_lt n 269 (read_one h) read_two)
 
 -- An option at a position: the record that is found there, what follows it, and that it means the option.
 pub record Finds (s : List ℕ) (number at : ℕ) (o : Opt) (rest : List ℕ) : Type 0 where
@@ -97,19 +97,19 @@ finds_pieces s number at d v rest low short e inside =
     let R₁ : List ℕ = extension_of d ++ (extension_of (length v) ++ (v ++ rest)) in
     let p₁ : drop (at + 1) s ≡ R₁ = past s at (h ∷ []) R₁ e inside in
     let f₁ : at + 1 ≤ length s = fits s at (h ∷ []) R₁ e inside in
-    let x₁ = reads-back 3 65535 s (at + 1) d (extension_of (length v) ++ (v ++ rest)) p₁ f₁ (omega arith) (omega arith) in
+    let x₁ = reads_back 3 65535 s (at + 1) d (extension_of (length v) ++ (v ++ rest)) p₁ f₁ (omega arith) (omega arith) in
     let a₂ : ℕ = at + 1 + length (extension_of d) in
     let p₂ : drop a₂ s ≡ extension_of (length v) ++ (v ++ rest) = past s (at + 1) (extension_of d) (extension_of (length v) ++ (v ++ rest)) p₁ f₁ in
     let f₂ : a₂ ≤ length s = fits s (at + 1) (extension_of d) (extension_of (length v) ++ (v ++ rest)) p₁ f₁ in
-    let x₂ = reads-back 4 65804 s a₂ (length v) (v ++ rest) p₂ f₂ short short in
+    let x₂ = reads_back 4 65804 s a₂ (length v) (v ++ rest) p₂ f₂ short short in
     let a₃ : ℕ = a₂ + length (extension_of (length v)) in
     let p₃ : drop a₃ s ≡ v ++ rest = past s a₂ (extension_of (length v)) (v ++ rest) p₂ f₂ in
     let f₃ : a₃ ≤ length s = fits s a₂ (extension_of (length v)) (v ++ rest) p₂ f₂ in
     let b : get_or s (at + 0) 0 ≡ h = byte s at (h ∷ []) R₁ e inside 0 (omega arith) in
     let first : get_or s at 0 ≡ h = rw add-zero at b in
-    let high : get_or s at 0 / 16 ≡ nibble_of d = omega (arith, nibble-small d, nibble-small (length v)) in
-    let low-nibble : get_or s at 0 % 16 ≡ nibble_of (length v) = omega (arith, nibble-small d, nibble-small (length v)) in
-    let no-mark : get_or s at 0 < 255 = omega (arith, nibble-small d, nibble-small (length v)) in
+    let high : get_or s at 0 / 16 ≡ nibble_of d = omega (arith, nibble_small d, nibble_small (length v)) in
+    let low-nibble : get_or s at 0 % 16 ≡ nibble_of (length v) = omega (arith, nibble_small d, nibble_small (length v)) in
+    let no-mark : get_or s at 0 < 255 = omega (arith, nibble_small d, nibble_small (length v)) in
     let ends : a₃ + length v ≤ length s = fits s a₃ v rest p₃ f₃ in
     let room : length v ≤ length s - a₃ = omega arith in
     let here : at < length s = omega arith in
@@ -149,7 +149,7 @@ module _ (s : List ℕ) where
       let none_left : length s - length s ≡ 0 = omega arith in
       record {
         tail = record { records = []; marked = false; payload = length s };
-        is = options-ended 65804 s room number at false (length s) (rw (le-leb (length s) at long) refl);
+        is = options_ended 65804 s room number at false (length s) (rw (le-leb (length s) at long) refl);
         homes = tt;
         means = refl;
         payload = rest_bytes s (length s) (omega arith) ∙ drop-length s;
@@ -164,7 +164,7 @@ module _ (s : List ℕ) where
       let more : at + 1 < length s = omega (arith, sym (length-drop (at + 1) s) ∙ ap length p) in
       record {
         tail = record { records = []; marked = true; payload = at + 1 };
-        is = options-ended 65804 s room number at true (at + 1) (rw (lt-leb (length s) at here, eq-eqb (get_or s at 0) 255 first) refl);
+        is = options_ended 65804 s room number at true (at + 1) (rw (lt-leb (length s) at here, eq-eqb (get_or s at 0) 255 first) refl);
         homes = tt;
         means = refl;
         payload = rest_bytes s (at + 1) f ∙ p;
@@ -182,7 +182,7 @@ module _ (s : List ℕ) where
       let r = reads os room o.number (end f.found) pl (le_of_suc-le-suc count) rising.1 fine.3 f.after f.inside in
       record {
         tail = record { records = f.found ∷ r.tail.records; marked = r.tail.marked; payload = r.tail.payload };
-        is = options-more 65804 s room number at f.found f.is ∙ (rw (same, r.is) refl);
+        is = options_more 65804 s room number at f.found f.is ∙ (rw (same, r.is) refl);
         homes = (f.home, r.homes);
         means = λ i. f.means i ∷ r.means i;
         payload = r.payload;
@@ -219,16 +219,16 @@ module _ (m : Message) (w : WellFormed m) where
   token_is : token_of (raw m) ≡ length m.token
   token_is = omega (arith, w.type, w.token_length)
 
-  version-is : version_of (raw m) ≡ 1
-  version-is = omega (arith, w.version, w.type, w.token_length)
+  version_is : version_of (raw m) ≡ 1
+  version_is = omega (arith, w.version, w.type, w.token_length)
 
-  token-fits : 4 + length m.token ≤ length s
-  token-fits = fits s 4 m.token (options_layout 0 m.options ++ payload_layout m.payload) from long
+  token_fits : 4 + length m.token ≤ length s
+  token_fits = fits s 4 m.token (options_layout 0 m.options ++ payload_layout m.payload) from long
 
-  tail-reads : Reads s 128 0 (4 + length m.token) m.options m.payload
-  tail-reads =
+  tail_reads : Reads s 128 0 (4 + length m.token) m.options m.payload
+  tail_reads =
       reads s m.options 128 0 (4 + length m.token) m.payload w.count w.rising w.options
-      (past s 4 m.token (options_layout 0 m.options ++ payload_layout m.payload) from long) token-fits
+      (past s 4 m.token (options_layout 0 m.options ++ payload_layout m.payload) from long) token_fits
 
   carries : both (eqb m.code 0) (either (ltb 4 (length s)) (not (eqb (token_of (raw m)) 0))) ≡ false
   unfolding s
@@ -241,24 +241,24 @@ module _ (m : Message) (w : WellFormed m) where
       rw (eq-eqb m.code 0 e, le-ltb 4 (length (raw_bytes (raw m) ++ body m)) short, eq-eqb (token_of (raw m)) 0 no-token) refl)
       (λ e. rw (ne_eqb m.code 0 e) refl)
 
-  means-it : meant s (raw m) tail-reads.tail ≡ m
+  means_it : meant s (raw m) tail_reads.tail ≡ m
   unfolding meant
-  means-it =
-      let version : version_of (raw m) ≡ m.version = version-is ∙ sym w.version in
+  means_it =
+      let version : version_of (raw m) ≡ m.version = version_is ∙ sym w.version in
       let type : (raw m).ver_type_tkl / 16 % 4 ≡ m.type = omega (arith, w.type, w.token_length) in
       let token : bytes_in s 4 (token_of (raw m)) ≡ m.token =
       ap (bytes_in s 4) token_is ∙ names s 4 m.token (options_layout 0 m.options ++ payload_layout m.payload) from long in
       λ i.
-      record { version = version i; type = type i; code = m.code; id = m.id; token = token i; options = tail-reads.means i; payload = tail-reads.payload i }
+      record { version = version i; type = type i; code = m.code; id = m.id; token = token i; options = tail_reads.means i; payload = tail_reads.payload i }
 
-  after-reads : after_header true s (raw m) ≡ given (packet_of s (raw m) tail-reads.tail)
+  after_reads : after_header true s (raw m) ≡ given (packet_of s (raw m) tail_reads.tail)
   unfolding after_header finished
-  after-reads =
-      let inside : 4 + token_of (raw m) ≤ length s = omega (arith, token_is, token-fits) in
+  after_reads =
+      let inside : 4 + token_of (raw m) ≤ length s = omega (arith, token_is, token_fits) in
       let short : token_of (raw m) ≤ 8 = omega (arith, token_is, w.token_length) in
-      let options-read : options 65804 s 128 0 (4 + token_of (raw m)) ≡ given tail-reads.tail =
-      ap (λ (k : ℕ). options 65804 s 128 0 (4 + k)) token_is ∙ tail-reads.is in
-      rw (eq-eqb (version_of (raw m)) 1 version-is, le-ltb 8 (token_of (raw m)) short, le-ltb (length s) (4 + token_of (raw m)) inside, carries, options-read, tail-reads.alone) refl
+      let options-read : options 65804 s 128 0 (4 + token_of (raw m)) ≡ given tail_reads.tail =
+      ap (λ (k : ℕ). options 65804 s 128 0 (4 + k)) token_is ∙ tail_reads.is in
+      rw (eq-eqb (version_of (raw m)) 1 version_is, le-ltb 8 (token_of (raw m)) short, le-ltb (length s) (4 + token_of (raw m)) inside, carries, options-read, tail_reads.alone) refl
 
 -- The packet that strict reading gives for the layout of a message, and that it means the message, whatever the edit
 -- store holds.
@@ -272,9 +272,9 @@ unfolding reading s
 reads_layout m w fits =
     let same : layout m ≡ raw_bytes (raw m) ++ body m = layout_is m in
     let here : length (raw_bytes (raw m) ++ body m) ≤ 70000 = omega (arith, ap length same) in
-    let t = (tail-reads m w).tail in
+    let t = (tail_reads m w).tail in
     record {
       packet = packet_of (s m w) (raw m) t;
-      is = rw (same, le-ltb 70000 (length (raw_bytes (raw m) ++ body m)) here, raw_back (raw m) (body m)) (after-reads m w);
-      means = λ edits. rw same (is_meant (s m w) edits (raw m) t (tail-reads m w).homes ∙ means-it m w);
+      is = rw (same, le-ltb 70000 (length (raw_bytes (raw m) ++ body m)) here, raw_back (raw m) (body m)) (after_reads m w);
+      means = λ edits. rw same (is_meant (s m w) edits (raw m) t (tail_reads m w).homes ∙ means_it m w);
     }

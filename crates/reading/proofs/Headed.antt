@@ -32,9 +32,9 @@ by_test true f g = f refl
 by_test false f g = g refl
 
 module _ (strict : Bool) (s : List ℕ) where
-  good-opens : (raw : HeaderRaw) → length s ≤ 70000 → Opened strict s (after_header strict s raw) (good_header strict s raw)
+  good_opens : (raw : HeaderRaw) → length s ≤ 70000 → Opened strict s (after_header strict s raw) (good_header strict s raw)
   unfolding after_header good_header
-  good-opens raw h =
+  good_opens raw h =
       by_test (both strict (not (eqb (version_of raw) 1))) (λ e. rw e (record { is = refl; roomy = tt }))
       (λ e. rw e
       (by_test (either (ltb 8 (token_of raw)) (ltb (length s) (4 + token_of raw))) (λ f. rw f (record { is = refl; roomy = tt }))
@@ -42,12 +42,12 @@ module _ (strict : Bool) (s : List ℕ) where
       (by_test (both strict (both (eqb raw.code 0) (either (ltb 4 (length s)) (not (eqb (token_of raw) 0))))) (λ g. rw g (record { is = refl; roomy = tt }))
       (λ g. rw g (record { is = refl; roomy = (ltb-false _ _ (neither (ltb 8 (token_of raw)) (ltb (length s) (4 + token_of raw)) f).1, h) }))))))
 
-  raw-opens : (a : Answer HeaderRaw) → length s ≤ 70000 → Opened strict s (onward a (after_header strict s)) (onward a (good_header strict s))
-  raw-opens (given raw) h = good-opens raw h
-  raw-opens (refused k) h = record { is = refl; roomy = tt }
+  raw_opens : (a : Answer HeaderRaw) → length s ≤ 70000 → Opened strict s (onward a (after_header strict s)) (onward a (good_header strict s))
+  raw_opens (given raw) h = good_opens raw h
+  raw_opens (refused k) h = record { is = refl; roomy = tt }
 
-  pub headed-opens : Opened strict s (reading strict s) (headed strict s)
+  pub headed_opens : Opened strict s (reading strict s) (headed strict s)
   unfolding reading headed
-  headed-opens =
+  headed_opens =
       by_test (ltb 70000 (length s)) (λ e. rw e (record { is = refl; roomy = tt }))
-      (λ e. rw e (raw-opens (raw_in s) (ltb-false _ _ e)))
+      (λ e. rw e (raw_opens (raw_in s) (ltb-false _ _ e)))

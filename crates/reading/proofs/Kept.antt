@@ -17,7 +17,7 @@ use Rattle.judging.specs.Judge.{lengths_of, falling, bad_value, bad_values, bad_
 use Rattle.packet.specs.Shape.{Numbers, Shaped}
 use Rattle.packet.specs.declared.Packet.{Packet}
 use Rattle.packet.specs.declared.OptionRecord.{OptionRecord}
-use Rattle.judging.proofs.Good.{not-bad}
+use Rattle.judging.proofs.Good.{not_bad}
 use Rattle.option_reading.specs.Option.{place_at, end}
 use Rattle.reading.specs.Options.{Tail, options, before}
 use Rattle.reading.specs.Reading.{packet_of, longest, reading}
@@ -35,12 +35,12 @@ record Fine (s : List ℕ) (room number : ℕ) (t : Tail) : Type 0 where
   inside : t.payload ≤ length s
 
 module _ (longest : ℕ) (s : List ℕ) (b : Bytes s) where
-  none-fine : (room number at : ℕ) (marked : Bool) (payload : ℕ) → Ended s at marked payload → Fine s room number (record { records = []; marked = marked; payload = payload })
-  none-fine room number at marked payload e = record { count = omega arith; ordered = refl; values = λ edits. refl; numbers = tt; inside = e.inside }
+  none_fine : (room number at : ℕ) (marked : Bool) (payload : ℕ) → Ended s at marked payload → Fine s room number (record { records = []; marked = marked; payload = payload })
+  none_fine room number at marked payload e = record { count = omega arith; ordered = refl; values = λ edits. refl; numbers = tt; inside = e.inside }
 
-  one-fine : (room number at : ℕ) (r : OptionRecord) → Laid s number at r → (t : Tail) → Fine s room r.number t
+  one_fine : (room number at : ℕ) (r : OptionRecord) → Laid s number at r → (t : Tail) → Fine s room r.number t
       → Fine s (suc room) number (record { records = r ∷ t.records; marked = t.marked; payload = t.payload })
-  one-fine room number at r l t f =
+  one_fine room number at r l t f =
       record {
         count = omega (arith, f.count);
         ordered = none_of (ltb r.number number) (falling r.number t.records) (le-ltb r.number number l.rises) f.ordered;
@@ -54,11 +54,11 @@ module _ (longest : ℕ) (s : List ℕ) (b : Bytes s) where
   fine : (room number at : ℕ) → at ≤ length s → Given (Fine s room number) (options longest s room number at)
   unfolding options
   fine zero number at h =
-      given_place (Stands s number at) (Fine s zero number) (place_at longest s number at) _ (stands longest s b number at h) (none-fine zero number at) (λ r l. tt)
+      given_place (Stands s number at) (Fine s zero number) (place_at longest s number at) _ (stands longest s b number at h) (none_fine zero number at) (λ r l. tt)
   fine (suc room) number at h =
-      given_place (Stands s number at) (Fine s (suc room) number) (place_at longest s number at) _ (stands longest s b number at h) (none-fine (suc room) number at)
+      given_place (Stands s number at) (Fine s (suc room) number) (place_at longest s number at) _ (stands longest s b number at h) (none_fine (suc room) number at)
       (λ r l. given_onward (Fine s room r.number) (Fine s (suc room) number) (options longest s room r.number (end r)) (before r)
-      (fine room r.number (end r) l.inside) (one-fine room number at r l))
+      (fine room r.number (end r) l.inside) (one_fine room number at r l))
 
 numbers_append : (rs qs : List OptionRecord) → Numbers rs → Numbers qs → Numbers (rs ++ qs)
 numbers_append [] qs a c = c
@@ -77,7 +77,7 @@ unfolding packet_of header_of
 packet_kept s raw small token inside t f =
     let p : Packet = packet_of s raw t in
     let found : records_of p ≡ t.records = records_found s raw t in (
-      λ edits. not-bad (lengths_of (stores s edits)) p
+      λ edits. not_bad (lengths_of (stores s edits)) p
           (record {
             version = omega (arith, small.first);
             count = f.count;

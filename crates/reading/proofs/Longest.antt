@@ -14,10 +14,10 @@ use Rattle.refusal.specs.Answer.{Answer, given, refused, onward}
 use Rattle.refusal.proofs.Answers.{Given, given_onward}
 use Rattle.packet.specs.declared.OptionRecord.{OptionRecord}
 use Rattle.option_reading.specs.Option.{Place, option, place_at, end}
-use Rattle.option_reading.proofs.Longest.{capped_place, place-capped}
+use Rattle.option_reading.proofs.Longest.{capped_place, place_capped}
 use Rattle.reading.specs.Options.{Tail, options, before}
 use Rattle.reading.specs.Reading.{longest}
-use Rattle.reading.proofs.Walk.{options-refused, options-ended, options-more}
+use Rattle.reading.proofs.Walk.{options_refused, options_ended, options_more}
 use Rattle.reading.proofs.Sound.{option_in, Stands, stands, given_place, inside_length}
 
 -- No value is longer than `most`.
@@ -50,25 +50,25 @@ module _ (longest most : ℕ) (wide : 268 ≤ most) (s : List ℕ) (b : Bytes s)
   there : (number at : ℕ) → at ≤ length s → Given (There number at) (place_at longest s number at)
   there number at h =
       given_both (Stands s number at) (λ (p : Place). place_at most s number at ≡ capped_place most p) (place_at longest s number at)
-      (stands longest s b number at h) (place-capped longest most wide s b number at)
+      (stands longest s b number at h) (place_capped longest most wide s b number at)
 
   one_more : (room number at : ℕ) (r : OptionRecord) → There number at (option r) → (t : Tail) → Same room r.number (end r) t
       → Same (suc room) number at (record { records = r ∷ t.records; marked = t.marked; payload = t.payload })
   one_more room number at r (l, e) t h =
       rw (inside_length s r.start r.len l.inside)
       (by_lt most r.len
-      (λ long. rw (lt-leb r.len most long) (options-refused most s (suc room) number at 4 (e ∙ (rw (lt-leb r.len most long) refl))))
+      (λ long. rw (lt-leb r.len most long) (options_refused most s (suc room) number at 4 (e ∙ (rw (lt-leb r.len most long) refl))))
       (λ fits. rw (le-leb r.len most fits)
-      (options-more most s room number at r (e ∙ (rw (le-leb r.len most fits) refl))
+      (options_more most s room number at r (e ∙ (rw (le-leb r.len most fits) refl))
       ∙ (ap (λ (a : Answer Tail). onward a (before r)) h ∙ onward_pick (values_within most (map (option_in s) t.records)) t 4 (before r)))))
 
-  pub options-capped : (room number at : ℕ) → at ≤ length s → Given (Same room number at) (options longest s room number at)
+  pub options_capped : (room number at : ℕ) → at ≤ length s → Given (Same room number at) (options longest s room number at)
   unfolding options
-  options-capped zero number at h =
+  options_capped zero number at h =
       given_place (There number at) (Same zero number at) (place_at longest s number at) _ (there number at h)
-      (λ marked payload e. options-ended most s zero number at marked payload e.1) (λ r e. tt)
-  options-capped (suc room) number at h =
+      (λ marked payload e. options_ended most s zero number at marked payload e.1) (λ r e. tt)
+  options_capped (suc room) number at h =
       given_place (There number at) (Same (suc room) number at) (place_at longest s number at) _ (there number at h)
-      (λ marked payload e. options-ended most s (suc room) number at marked payload e.1)
+      (λ marked payload e. options_ended most s (suc room) number at marked payload e.1)
       (λ r e. given_onward (Same room r.number (end r)) (Same (suc room) number at) (options longest s room r.number (end r)) (before r)
-      (options-capped room r.number (end r) e.0.inside) (one_more room number at r e))
+      (options_capped room r.number (end r) e.0.inside) (one_more room number at r e))

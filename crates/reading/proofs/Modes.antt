@@ -22,7 +22,7 @@ use Rattle.packet.specs.declared.Packet.{Packet}
 use Rattle.reading.specs.Options.{Tail, options}
 use Rattle.reading.specs.Reading.{longest, finished, after_header, reading}
 use Rattle.reading.proofs.Sound.{option_in, marks}
-use Rattle.reading.proofs.Longest.{values_within, capped_tail, onward_pick, options-capped}
+use Rattle.reading.proofs.Longest.{values_within, capped_tail, onward_pick, options_capped}
 use Rattle.reading.proofs.Taken.{Taken, taken, bare, given_map}
 use Rattle.reading.proofs.Accept.{meant, found, means, laid_out}
 
@@ -50,22 +50,22 @@ carries_is n token h =
     (λ l. let no-token : token ≡ 0 = omega arith in rw (le-ltb 4 n l, eq-eqb token 0 no-token) refl)
 
 module _ (mode : Bool) (s : List ℕ) (b : Bytes s) (p : Packet) (k : Taken mode s p) (strict : Bool) where
-  options-again : options (longest strict) s 128 0 (4 + token_of k.raw) ≡ capped_tail (longest strict) s k.tail
-  options-again =
+  options_again : options (longest strict) s 128 0 (4 + token_of k.raw) ≡ capped_tail (longest strict) s k.tail
+  options_again =
       on_given (λ (t : Tail). options (longest strict) s 128 0 (4 + token_of k.raw) ≡ capped_tail (longest strict) s t) (options (longest mode) s 128 0 (4 + token_of k.raw)) k.tail
-      (options-capped (longest mode) (longest strict) (longest_wide strict) s b 128 0 (4 + token_of k.raw) k.token_inside) k.options
+      (options_capped (longest mode) (longest strict) (longest_wide strict) s b 128 0 (4 + token_of k.raw) k.token_inside) k.options
 
-  after-again : after_header strict s k.raw ≡ read_again strict s (meant s k.raw k.tail) p
+  after_again : after_header strict s k.raw ≡ read_again strict s (meant s k.raw k.tail) p
   unfolding after_header finished meant
-  after-again =
+  after_again =
       let raw = k.raw in
       let t = k.tail in
-      rw (le-ltb 8 (token_of raw) k.token_short, le-ltb (length s) (4 + token_of raw) k.token_inside, carries_is (length s) (token_of raw) k.token_inside, options-again, onward_pick _ t 4 (finished strict s raw), k.packet, ← longer (bare s t) (layout (meant s raw t)) s (laid_out mode s b p k)) refl
+      rw (le-ltb 8 (token_of raw) k.token_short, le-ltb (length s) (4 + token_of raw) k.token_inside, carries_is (length s) (token_of raw) k.token_inside, options_again, onward_pick _ t 4 (finished strict s raw), k.packet, ← longer (bare s t) (layout (meant s raw t)) s (laid_out mode s b p k)) refl
 
   again : (edits : List ℕ) → reading strict s ≡ read_again strict s (meaning (stores s edits) p) p
   unfolding reading
   again edits =
-      rw (le-ltb 70000 (length s) k.fits, k.header) (after-again ∙ ap (λ (m : Message). read_again strict s m p) (sym (means mode s b p k edits)))
+      rw (le-ltb 70000 (length s) k.fits, k.header) (after_again ∙ ap (λ (m : Message). read_again strict s m p) (sym (means mode s b p k edits)))
 
 -- No value is longer than any mode takes.
 values_fine : (os : List Opt) → Options os → values_within max_value os ≡ true

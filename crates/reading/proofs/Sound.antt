@@ -11,7 +11,7 @@ use borrow.Author.Tests.{le-leb}
 use Rattle.rfc.specs.Message.{Opt, nibble_of, extension_of, option_layout, options_layout, Rising, Options}
 use Rattle.ground.specs.Part.{Bytes}
 use Rattle.ground.proofs.Choice.{on_lt, on_le, on_eq}
-use Rattle.rfc.proofs.Message.{nibble-none, nibble-one, nibble-two, extension-none, extension-one, extension-two}
+use Rattle.rfc.proofs.Message.{nibble_none, nibble_one, nibble_two, extension_none, extension_one, extension_two}
 use Rattle.ground.proofs.Part.{byte_at, bytes_take, bytes_drop}
 use Rattle.refusal.specs.Answer.{Answer, given, refused}
 use Rattle.packet.specs.Packet.{chosen, stores, bytes_in}
@@ -34,25 +34,25 @@ pub record Extends (s : List ℕ) (at nibble : ℕ) (v : Value) : Type 0 where
   pub inside : v.next ≤ length s
 
 module _ (s : List ℕ) (b : Bytes s) (at : ℕ) (h : at ≤ length s) where
-  extends-none : (nibble : ℕ) → nibble < 13 → Extends s at nibble (record { value = nibble; next = at })
-  extends-none nibble l =
-      record { says = nibble-none nibble l; bytes = rw (extension-none nibble l); small = omega arith; inside = h }
+  extends_none : (nibble : ℕ) → nibble < 13 → Extends s at nibble (record { value = nibble; next = at })
+  extends_none nibble l =
+      record { says = nibble_none nibble l; bytes = rw (extension_none nibble l); small = omega arith; inside = h }
 
-  extends-one : 1 ≤ length s - at → Extends s at 13 (record { value = 13 + get_or s at 0; next = at + 1 })
-  extends-one r =
+  extends_one : 1 ≤ length s - at → Extends s at 13 (record { value = 13 + get_or s at 0; next = at + 1 })
+  extends_one r =
       let x = get_or s at 0 in
       let xs : x < 256 = byte_at s at b in
       let back : 13 + x - 13 ≡ x = omega arith in
-      let e : extension_of (13 + x) ≡ (x ∷ []) = extension-one (13 + x) (omega arith) (omega arith) ∙ ap (λ (y : ℕ). y ∷ []) back in
+      let e : extension_of (13 + x) ≡ (x ∷ []) = extension_one (13 + x) (omega arith) (omega arith) ∙ ap (λ (y : ℕ). y ∷ []) back in
       record {
-        says = nibble-one (13 + x) (omega arith) (omega arith);
+        says = nibble_one (13 + x) (omega arith) (omega arith);
         bytes = rw e (byte_first s at (omega arith));
         small = omega arith;
         inside = omega arith;
       }
 
-  extends-two : 2 ≤ length s - at → Extends s at 14 (record { value = 269 + (get_or s at 0 * 256 + get_or s (at + 1) 0); next = at + 2 })
-  extends-two r =
+  extends_two : 2 ≤ length s - at → Extends s at 14 (record { value = 269 + (get_or s at 0 * 256 + get_or s (at + 1) 0); next = at + 2 })
+  extends_two r =
       let x = get_or s at 0 in
       let y = get_or s (at + 1) 0 in
       let xs : x < 256 = byte_at s at b in
@@ -60,10 +60,10 @@ module _ (s : List ℕ) (b : Bytes s) (at : ℕ) (h : at ≤ length s) where
       let v = 269 + (x * 256 + y) in
       let high : (v - 269) / 256 ≡ x = omega arith in
       let low : (v - 269) % 256 ≡ y = omega arith in
-      let e : extension_of v ≡ (x ∷ y ∷ []) = extension-two v (omega arith) ∙ (rw (high, low) refl) in
+      let e : extension_of v ≡ (x ∷ y ∷ []) = extension_two v (omega arith) ∙ (rw (high, low) refl) in
       let two : at + 1 + 1 ≡ at + 2 = omega arith in
       record {
-        says = nibble-two v (omega arith);
+        says = nibble_two v (omega arith);
         bytes = rw e (byte_first s at (omega arith) ∙ (rw (byte_first s (at + 1) (omega arith), two) refl));
         small = omega arith;
         inside = omega arith;
@@ -72,14 +72,14 @@ module _ (s : List ℕ) (b : Bytes s) (at : ℕ) (h : at ≤ length s) where
   pub extends : (over most nibble : ℕ) → Given (Extends s at nibble) (extended over most s at nibble)
   unfolding extended
   extends over most nibble =
-      on_lt (Given (Extends s at nibble)) nibble 13 (extends-none nibble)
+      on_lt (Given (Extends s at nibble)) nibble 13 (extends_none nibble)
       (λ l.
       on_eq (Given (Extends s at nibble)) nibble 13
-      (λ e. on_lt (Given (Extends s at nibble)) (length s - at) 1 (λ r. tt) (λ r. rw e (extends-one r)))
+      (λ e. on_lt (Given (Extends s at nibble)) (length s - at) 1 (λ r. tt) (λ r. rw e (extends_one r)))
       (λ e.
       on_eq (Given (Extends s at nibble)) nibble 14
       (λ f. on_lt (Given (Extends s at nibble)) (length s - at) 2 (λ r. tt)
-      (λ r. on_lt (Given (Extends s at nibble)) most (269 + (get_or s at 0 * 256 + get_or s (at + 1) 0)) (λ m. tt) (λ m. rw f (extends-two r))))
+      (λ r. on_lt (Given (Extends s at nibble)) most (269 + (get_or s at 0 * 256 + get_or s (at + 1) 0)) (λ m. tt) (λ m. rw f (extends_two r))))
       (λ f. tt)))
 
 -- The value of a range that is inside.
@@ -156,21 +156,21 @@ module _ (longest : ℕ) (s : List ℕ) (b : Bytes s) where
         inside = ends;
       }
 
-  value-stands : (number at : ℕ) (h : at < length s) (delta : Value) → Extends s (at + 1) (get_or s at 0 / 16) delta → (len : Value) → Extends s delta.next (get_or s at 0 % 16) len
+  value_stands : (number at : ℕ) (h : at < length s) (delta : Value) → Extends s (at + 1) (get_or s at 0 / 16) delta → (len : Value) → Extends s delta.next (get_or s at 0 % 16) len
       → Given (Stands s number at) (value_at s (number + delta.value) len.next len.value)
   unfolding value_at
-  value-stands number at h delta d len l =
+  value_stands number at h delta d len l =
       on_lt (Given (Stands s number at)) 65535 (number + delta.value) (λ over. tt)
       (λ low. on_lt (Given (Stands s number at)) (length s - len.next) len.value (λ past. tt) (λ fits. laid number at h delta d len l low fits))
 
-  option-stands : (number at : ℕ) → at < length s → Given (Stands s number at) (option_at longest s number at)
+  option_stands : (number at : ℕ) → at < length s → Given (Stands s number at) (option_at longest s number at)
   unfolding option_at length_at
-  option-stands number at h =
+  option_stands number at h =
       given_onward (Extends s (at + 1) (get_or s at 0 / 16)) (Stands s number at) (extended 3 65535 s (at + 1) (get_or s at 0 / 16)) _
       (extends s b (at + 1) (omega arith) 3 65535 (get_or s at 0 / 16))
       (λ delta d. given_onward (Extends s delta.next (get_or s at 0 % 16)) (Stands s number at) (extended 4 longest s delta.next (get_or s at 0 % 16)) _
       (extends s b delta.next d.inside 4 longest (get_or s at 0 % 16))
-      (value-stands number at h delta d))
+      (value_stands number at h delta d))
 
   pub stands : (number at : ℕ) → at ≤ length s → Given (Stands s number at) (place_at longest s number at)
   unfolding place_at
@@ -179,7 +179,7 @@ module _ (longest : ℕ) (s : List ℕ) (b : Bytes s) where
       (λ h. record { bytes = drop_of_length-le s h ∙ sym (drop-length s); inside = omega arith; unmarked = λ _. refl })
       (λ h. on_eq (Given (Stands s number at)) (get_or s at 0) 255
       (λ e. record { bytes = byte_first s at h ∙ (rw e refl); inside = omega arith; unmarked = λ t. cc })
-      (λ e. option-stands number at h))
+      (λ e. option_stands number at h))
 
 -- The options that were read, laid out from a position, and what ends them.
 pub record Follows (s : List ℕ) (room number at : ℕ) (t : Tail) : Type 0 where

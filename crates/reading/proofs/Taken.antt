@@ -67,9 +67,9 @@ given_map f (given v) h = f v h
 given_map f (refused k) h = tt
 
 module _ (strict : Bool) (s : List ℕ) where
-  after-taken : length s ≤ 70000 → (raw : HeaderRaw) → RawSmall s raw → raw_in s ≡ given raw → Given (Taken strict s) (after_header strict s raw)
+  after_taken : length s ≤ 70000 → (raw : HeaderRaw) → RawSmall s raw → raw_in s ≡ given raw → Given (Taken strict s) (after_header strict s raw)
   unfolding after_header finished
-  after-taken fits raw small is =
+  after_taken fits raw small is =
       let other = not (eqb (version_of raw) 1) in
       let carries = either (ltb 4 (length s)) (not (eqb (token_of raw) 0)) in
       on (Given (Taken strict s)) (both strict other) (λ e. tt)
@@ -100,4 +100,4 @@ module _ (strict : Bool) (s : List ℕ) where
   taken b =
       on_lt (Given (Taken strict s)) 70000 (length s) (λ long. tt)
       (λ fits. given_onward (λ (raw : HeaderRaw). RawSmall s raw × (raw_in s ≡ given raw)) (Taken strict s) (raw_in s) (after_header strict s)
-      (given_self (RawSmall s) (raw_in s) (raw_small s b)) (λ raw r. after-taken fits raw r.0 r.1))
+      (given_self (RawSmall s) (raw_in s) (raw_small s b)) (λ raw r. after_taken fits raw r.0 r.1))

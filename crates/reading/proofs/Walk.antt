@@ -33,25 +33,25 @@ ahead_before rs r (refused k) = refl
 
 module _ (longest : ℕ) (s : List ℕ) where
   -- A refusal or an end does not depend on the room; an option does.
-  pub options-refused : (room number at k : ℕ) → place_at longest s number at ≡ refused k → options longest s room number at ≡ refused k
+  pub options_refused : (room number at k : ℕ) → place_at longest s number at ≡ refused k → options longest s room number at ≡ refused k
   unfolding options
-  options-refused zero number at k e = rw e
-  options-refused (suc room) number at k e = rw e
+  options_refused zero number at k e = rw e
+  options_refused (suc room) number at k e = rw e
 
-  pub options-ended : (room number at : ℕ) (marked : Bool) (payload : ℕ) → place_at longest s number at ≡ given (ended marked payload)
+  pub options_ended : (room number at : ℕ) (marked : Bool) (payload : ℕ) → place_at longest s number at ≡ given (ended marked payload)
       → options longest s room number at ≡ given (record { records = []; marked = marked; payload = payload })
   unfolding options
-  options-ended zero number at marked payload e = rw e
-  options-ended (suc room) number at marked payload e = rw e
+  options_ended zero number at marked payload e = rw e
+  options_ended (suc room) number at marked payload e = rw e
 
-  pub options-full : (number at : ℕ) (r : OptionRecord) → place_at longest s number at ≡ given (option r) → options longest s zero number at ≡ refused 6
+  pub options_full : (number at : ℕ) (r : OptionRecord) → place_at longest s number at ≡ given (option r) → options longest s zero number at ≡ refused 6
   unfolding options
-  options-full number at r e = rw e
+  options_full number at r e = rw e
 
-  pub options-more : (room number at : ℕ) (r : OptionRecord) → place_at longest s number at ≡ given (option r)
+  pub options_more : (room number at : ℕ) (r : OptionRecord) → place_at longest s number at ≡ given (option r)
       → options longest s (suc room) number at ≡ onward (options longest s room r.number (end r)) (before r)
   unfolding options
-  options-more room number at r e = rw e
+  options_more room number at r e = rw e
 
   -- Before an option: the records so far stand in the array's first places, and the whole answer is theirs put before that of what is left.
   pub record Walk (from : ℕ) (records : List OptionRecord) (count number at : ℕ) : Type 0 where
@@ -79,30 +79,30 @@ module _ (longest : ℕ) (s : List ℕ) where
           counted = simp length-append (omega (arith, w.counted));
           room = omega arith;
           inside = inside;
-          whole = w.whole ∙ (rw left (ap (ahead w.found) (options-more (128 - (count + 1)) number at r e))
+          whole = w.whole ∙ (rw left (ap (ahead w.found) (options_more (128 - (count + 1)) number at r e))
               ∙ ahead_before w.found r (options longest s (128 - (count + 1)) r.number (end r)));
         }
 
     pub refuses : (k : ℕ) → place_at longest s number at ≡ refused k → options longest s 128 0 from ≡ refused k
-    refuses k e = w.whole ∙ ap (ahead w.found) (options-refused (128 - count) number at k e)
+    refuses k e = w.whole ∙ ap (ahead w.found) (options_refused (128 - count) number at k e)
 
     pub overflows : (r : OptionRecord) → place_at longest s number at ≡ given (option r) → 128 ≤ count → options longest s 128 0 from ≡ refused 6
     overflows r e h =
         let left : 128 - count ≡ 0 = omega arith in
-        w.whole ∙ rw left (ap (ahead w.found) (options-full number at r e))
+        w.whole ∙ rw left (ap (ahead w.found) (options_full number at r e))
 
     pub ends : (marked : Bool) (payload : ℕ) → place_at longest s number at ≡ given (ended marked payload)
         → options longest s 128 0 from ≡ given (record { records = w.found; marked = marked; payload = payload })
     ends marked payload e =
-        w.whole ∙ (ap (ahead w.found) (options-ended (128 - count) number at marked payload e)
+        w.whole ∙ (ap (ahead w.found) (options_ended (128 - count) number at marked payload e)
         ∙ ap (λ (l : List OptionRecord). given (record { records = l; marked = marked; payload = payload })) (append-nil w.found))
 
     -- The packet that is made of the walk's records is that of the definition.
-    pub packet-is : (raw : HeaderRaw) (marked : Bool) (payload : ℕ)
+    pub packet_is : (raw : HeaderRaw) (marked : Bool) (payload : ℕ)
         → record { header = header_of raw; token = in_datagram 4 (token_of raw); count = count; options = records; payload = in_datagram payload (length s - payload) }
         ≡ packet_of s raw (record { records = w.found; marked = marked; payload = payload })
     unfolding packet_of
-    packet-is raw marked payload =
+    packet_is raw marked payload =
         let options : records ≡ w.found ++ replicate (128 - length w.found) none =
         w.array ∙ ap (λ (n : ℕ). w.found ++ replicate (128 - n) none) w.counted in
         λ i.
@@ -110,10 +110,10 @@ module _ (longest : ℕ) (s : List ℕ) where
 
 -- A marker that ends the datagram is refused, and any other end gives the packet.
 module _ (strict : Bool) (s : List ℕ) (raw : HeaderRaw) (t : Tail) where
-  pub finished-alone : both strict (both t.marked (eqb t.payload (length s))) ≡ true → finished strict s raw t ≡ refused 9
+  pub finished_alone : both strict (both t.marked (eqb t.payload (length s))) ≡ true → finished strict s raw t ≡ refused 9
   unfolding finished
-  finished-alone e = rw e
+  finished_alone e = rw e
 
-  pub finished-well : both strict (both t.marked (eqb t.payload (length s))) ≡ false → finished strict s raw t ≡ given (packet_of s raw t)
+  pub finished_well : both strict (both t.marked (eqb t.payload (length s))) ≡ false → finished strict s raw t ≡ given (packet_of s raw t)
   unfolding finished
-  finished-well e = rw e
+  finished_well e = rw e

@@ -1,5 +1,6 @@
 // Reading a datagram to a packet, plain and strict (Packet::from_bytes of packet.rs).
 #![tactic(auto)]
+
 ghost use Rattle.std.specs.Prelude.{◌≡◌, Bool, not, eqb, ltb, ◌-◌, ◌≤◌, ◌<◌, length};
 ghost use Rattle.ground.specs.Choice.{both, either};
 ghost use Rattle.refusal.specs.Answer.{refused, beside};

@@ -46,19 +46,19 @@ onward_given (refused k) next b e = not_refused (sym e)
 
 -- What was answered, from an outcome and what stands beside it.
 module _ {A : Type 0} (old : A) where
-  pub was-refused : (a : Answer A) (b : Beside A) → b ≡ beside old a → (k : ℕ) → b.answer ≡ refused k → a ≡ refused k
-  was-refused (given v) b e k h = not_refused (sym (ap (λ (x : Beside A). x.answer) e) ∙ h)
-  was-refused (refused j) b e k h = ap refused (same_refused (sym (ap (λ (x : Beside A). x.answer) e) ∙ h))
+  pub was_refused : (a : Answer A) (b : Beside A) → b ≡ beside old a → (k : ℕ) → b.answer ≡ refused k → a ≡ refused k
+  was_refused (given v) b e k h = not_refused (sym (ap (λ (x : Beside A). x.answer) e) ∙ h)
+  was_refused (refused j) b e k h = ap refused (same_refused (sym (ap (λ (x : Beside A). x.answer) e) ∙ h))
 
-  pub was-given : (a : Answer A) (b : Beside A) → b ≡ beside old a → b.answer ≡ given tt → a ≡ given b.value
-  was-given (given v) b e h = ap (λ (x : Beside A). given x.value) (sym e)
-  was-given (refused j) b e h = not_refused (sym h ∙ ap (λ (x : Beside A). x.answer) e)
+  pub was_given : (a : Answer A) (b : Beside A) → b ≡ beside old a → b.answer ≡ given tt → a ≡ given b.value
+  was_given (given v) b e h = ap (λ (x : Beside A). given x.value) (sym e)
+  was_given (refused j) b e h = not_refused (sym h ∙ ap (λ (x : Beside A). x.answer) e)
 
-  pub answered-beside : (a : Answer A) → answered (beside old a) ≡ a
-  answered-beside (given v) = refl
-  answered-beside (refused k) = refl
+  pub answered_beside : (a : Answer A) → answered (beside old a) ≡ a
+  answered_beside (given v) = refl
+  answered_beside (refused k) = refl
 
   -- Beside a refusal stands the old one.
-  pub old-beside : (a : Answer A) (b : Beside A) → b ≡ beside old a → (k : ℕ) → b.answer ≡ refused k → b.value ≡ old
-  old-beside (given v) b e k h = not_refused (sym (ap (λ (x : Beside A). x.answer) e) ∙ h)
-  old-beside (refused j) b e k h = ap (λ (x : Beside A). x.value) e
+  pub old_beside : (a : Answer A) (b : Beside A) → b ≡ beside old a → (k : ℕ) → b.answer ≡ refused k → b.value ≡ old
+  old_beside (given v) b e k h = not_refused (sym (ap (λ (x : Beside A). x.answer) e) ∙ h)
+  old_beside (refused j) b e k h = ap (λ (x : Beside A). x.value) e

@@ -60,15 +60,15 @@ module _ (rs : List OptionRecord) (i : ℕ) where
   marks_length : length (map is_kept (fates [] rs)) ≡ length rs
   marks_length = length-map (fates [] rs) is_kept ∙ fates_length [] rs
 
-  pub mark-in : i < length rs → get_or (marks (fates [] rs)) i false ≡ get_or (map is_kept (fates [] rs)) i false
-  mark-in h =
+  pub mark_in : i < length rs → get_or (marks (fates [] rs)) i false ≡ get_or (map is_kept (fates [] rs)) i false
+  mark_in h =
       get_or-append (map is_kept (fates [] rs)) (replicate (max_options - length (fates [] rs)) false) false i (omega (arith, marks_length))
 
-  pub marked-at : i < length rs → get_or (marks (fates [] rs)) i false ≡ recognised_at rs i
-  marked-at h = mark-in h ∙ mark_at [] rs i h
+  pub marked_at : i < length rs → get_or (marks (fates [] rs)) i false ≡ recognised_at rs i
+  marked_at h = mark_in h ∙ mark_at [] rs i h
 
-  pub unmarked-past : length rs ≤ i → get_or (marks (fates [] rs)) i false ≡ false
-  unmarked-past h = past_all (map is_kept (fates [] rs)) (max_options - length (fates [] rs)) i (omega (arith, marks_length))
+  pub unmarked_past : length rs ≤ i → get_or (marks (fates [] rs)) i false ≡ false
+  unmarked_past h = past_all (map is_kept (fates [] rs)) (max_options - length (fates [] rs)) i (omega (arith, marks_length))
 
 -- The same of records after kept ones of these numbers.
 abbrev rejected_in : List ℕ → List OptionRecord → ℕ → Bool
@@ -146,8 +146,8 @@ module _ (rs : List OptionRecord) where
   whole f = record { inside = f.inside; here = f.here; before = f.earlier }
 
   -- The first record is one.
-  one-first : (i j : ℕ) → First rs i → First rs j → i ≡ j
-  one-first i j f g =
+  one_first : (i j : ℕ) → First rs i → First rs j → i ≡ j
+  one_first i j f g =
       by_lt i j (λ h. clash (rejected_at rs i) f.here (g.before i h))
       (λ h. by_lt j i (λ l. clash (rejected_at rs j) g.here (f.before j l)) (λ l. omega arith))
 
@@ -155,8 +155,8 @@ module _ (rs : List OptionRecord) where
   pub passes_then : answer ≡ passes → NoneRejected rs (length rs)
   passes_then e = subst (Says 0 [] rs) e (says 0 [] rs)
 
-  pub passes-when : NoneRejected rs (length rs) → answer ≡ passes
-  passes-when n = go answer (says 0 [] rs)
+  pub passes_when : NoneRejected rs (length rs) → answer ≡ passes
+  passes_when n = go answer (says 0 [] rs)
     where
       go : (a : Check) → Says 0 [] rs a → a ≡ passes
       go passes s = refl
@@ -164,18 +164,18 @@ module _ (rs : List OptionRecord) where
       go (refused_at k i) s = clash (rejected_at rs s.place) s.first.here (n s.place s.first.inside)
 
   -- A record is named exactly when it is the first that is rejected.
-  pub named-then : (k i : ℕ) → answer ≡ refused_at k i → First rs i
-  named-then k i e =
+  pub named_then : (k i : ℕ) → answer ≡ refused_at k i → First rs i
+  named_then k i e =
       let s : Named 0 [] rs k i = subst (Says 0 [] rs) e (says 0 [] rs) in
       let same : s.place ≡ i = omega (arith, s.index) in
       subst (First rs) same (whole s.first)
 
-  pub named-when : (i : ℕ) → First rs i → answer ≡ refused_at 16 i
-  named-when i f = go answer (says 0 [] rs)
+  pub named_when : (i : ℕ) → First rs i → answer ≡ refused_at 16 i
+  named_when i f = go answer (says 0 [] rs)
     where
       go : (a : Check) → Says 0 [] rs a → a ≡ refused_at 16 i
       go passes s = clash (rejected_at rs i) f.here (s i f.inside)
       go (refused k) s = absurd s
       go (refused_at k j) s =
-          let same : j ≡ i = omega (arith, s.index, one-first s.place i (whole s.first) f) in
+          let same : j ≡ i = omega (arith, s.index, one_first s.place i (whole s.first) f) in
           rw (s.number, same)

@@ -50,19 +50,19 @@ module _ (lengths : Lengths) (p : Packet) (a : Check) where
   in_order h = rw (h.short, h.good)
 
   -- What isn't 10 or 11 is said of the records, and of a sound packet.
-  pub past-order : (b : Check) → OfRecords b → if_in_order lengths p a ≡ b → Sound lengths p × (a ≡ b)
-  past-order passes o e = subst Cause e cause
-  past-order (refused k) o e = absurd o
-  past-order (refused_at k i) o e = subst Cause e cause
+  pub past_order : (b : Check) → OfRecords b → if_in_order lengths p a ≡ b → Sound lengths p × (a ≡ b)
+  past_order passes o e = subst Cause e cause
+  past_order (refused k) o e = absurd o
+  past_order (refused_at k i) o e = subst Cause e cause
 
   -- 10 is given for either store over 70,000 bytes, and 11 for any other packet with a bad record.
-  pub too-long-when : is_too_long lengths ≡ true → if_in_order lengths p a ≡ refused 10
+  pub too_long_when : is_too_long lengths ≡ true → if_in_order lengths p a ≡ refused 10
   unfolding if_in_order
-  too-long-when h = rw h
+  too_long_when h = rw h
 
-  pub bad-when : is_too_long lengths ≡ false → bad_packet lengths p ≡ true → if_in_order lengths p a ≡ refused 11
+  pub bad_when : is_too_long lengths ≡ false → bad_packet lengths p ≡ true → if_in_order lengths p a ≡ refused 11
   unfolding if_in_order
-  bad-when h b = rw (h, b)
+  bad_when h b = rw (h, b)
 
 -- What is reported says what it was made of.
 answer_of : (a : Check) (fs : List Fate) → (reported a fs).answer ≡ a
@@ -92,8 +92,8 @@ module _ (lengths : Lengths) (p : Packet) (c : Checked) (promise : Checks length
   pub says : told c.outcome ≡ checking lengths p
   says = ap (λ (r : Report). r.answer) promise ∙ answer_of (checking lengths p) (fates [] (records_of p))
 
-  pub outcome-is : (v : Verdict) → checking lengths p ≡ told v → c.outcome ≡ v
-  outcome-is v e = one_told c.outcome v (says ∙ e)
+  pub outcome_is : (v : Verdict) → checking lengths p ≡ told v → c.outcome ≡ v
+  outcome_is v e = one_told c.outcome v (says ∙ e)
 
   -- A packet that passes has the kept records marked.
   pub marked : c.outcome ≡ Passes → c.kept ≡ marks (fates [] (records_of p))
@@ -106,6 +106,6 @@ module _ (lengths : Lengths) (p : Packet) (c : Checked) (promise : Checks length
   none_kept = go (checking lengths p) refl
     where
       go : (a : Check) → checking lengths p ≡ a → (c.outcome ≡ Passes) ⊎ (c.kept ≡ replicate max_options false)
-      go passes e = inl (outcome-is Passes e)
+      go passes e = inl (outcome_is Passes e)
       go (refused k) e = inr (ap (λ (r : Report). r.kept) (promise ∙ ap (λ (a : Check). reported a (fates [] (records_of p))) e))
       go (refused_at k i) e = inr (ap (λ (r : Report). r.kept) (promise ∙ ap (λ (a : Check). reported a (fates [] (records_of p))) e))

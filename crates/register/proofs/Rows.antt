@@ -26,8 +26,8 @@ module _ (n i : ℕ) (rs : List Row) where
   pub row_on : i < length rs → ((get_or rs i no_row).0 ≡ n → ⊥) → row_in n (drop i rs) ≡ row_in n (drop (i + 1) rs)
   row_on h z = rw (add-one, drop-cons rs i no_row, ne_eqb (get_or rs i no_row).0 n z)
 
-  pub row-past : length rs ≤ i → row_in n (drop i rs) ≡ Unlisted
-  row-past h = rw (drop_of_length-le rs h)
+  pub row_past : length rs ≤ i → row_in n (drop i rs) ≡ Unlisted
+  row_past h = rw (drop_of_length-le rs h)
 
 -- The numbers of rows.
 abbrev pub numbers_in : List Row → List ℕ
@@ -72,18 +72,18 @@ row_of_each = own_row register each_once
 
 -- 0 is in no row; 9, 28 and 258 have names and no rows. So none of them is recognised: 9 is refused, the others are passed over.
 module _ (before : Bool) (r : OptionRecord) where
-  pub zero-unknown : r.number ≡ 0 → is_recognised before r ≡ false
+  pub zero_unknown : r.number ≡ 0 → is_recognised before r ≡ false
   unfolding is_recognised register
-  zero-unknown e = rw e
+  zero_unknown e = rw e
 
-  pub nine-unknown : r.number ≡ 9 → is_recognised before r ≡ false
+  pub nine_unknown : r.number ≡ 9 → is_recognised before r ≡ false
   unfolding is_recognised register
-  nine-unknown e = rw e
+  nine_unknown e = rw e
 
-  pub size2-unknown : r.number ≡ 28 → is_recognised before r ≡ false
+  pub size2_unknown : r.number ≡ 28 → is_recognised before r ≡ false
   unfolding is_recognised register
-  size2-unknown e = rw e
+  size2_unknown e = rw e
 
-  pub no-response-unknown : r.number ≡ 258 → is_recognised before r ≡ false
+  pub no_response_unknown : r.number ≡ 258 → is_recognised before r ≡ false
   unfolding is_recognised register
-  no-response-unknown e = rw e
+  no_response_unknown e = rw e

@@ -21,7 +21,7 @@ use Rattle.register.specs.Severe.{breaks_row, breaks_listing, breaks, first_brea
 use Rattle.register.specs.declared.row.Row.{Row}
 use Rattle.register.specs.declared.row.Listing.{Listing}
 use Rattle.register.specs.declared.row.Listing.TheVariants.{Listed, Unlisted}
-use Rattle.register.proofs.First.{mark-in}
+use Rattle.register.proofs.First.{mark_in}
 use Rattle.register.proofs.Walk.{listed_more, either_false}
 
 -- A record that doesn't break its row is recognised.
@@ -114,7 +114,7 @@ zero_unlisted = refl
 
 pub listed_at : (rs : List OptionRecord) → Spared 0 [] rs → (i : ℕ) → i < length rs → get_or (marks (fates [] rs)) i false ≡ registered (get_or rs i none).number
 listed_at rs s i h =
-    mark-in rs i h
+    mark_in rs i h
     ∙ (ap (λ (l : List Bool). get_or l i false) s.marked
     ∙ (ap (get_or (map (λ (r : OptionRecord). registered r.number) rs) i) (sym zero_unlisted) ∙ get_or-map (λ (r : OptionRecord). registered r.number) rs i none))
 

@@ -18,7 +18,7 @@ use Rattle.judging.specs.Judge.{falling}
 use Rattle.packet.specs.declared.OptionRecord.{OptionRecord}
 use Rattle.register.specs.Register.{is_recognised}
 use Rattle.register.specs.Check.{Check, passes, refused_at, recognised_after, fates, first_rejected, is_kept, marks, Report, nothing_kept, reported, sorted}
-use Rattle.register.proofs.Rows.{zero-unknown}
+use Rattle.register.proofs.Rows.{zero_unknown}
 
 pub either_false : (a : Bool) → either a false ≡ a
 either_false true = refl
@@ -80,32 +80,32 @@ module _ (done : List Fate) (i : ℕ) (counted : i ≡ length done) (room : i < 
   one_more : (f : Fate) → map is_kept done ++ (is_kept f ∷ rest) ≡ map is_kept (done ++ (f ∷ [])) ++ rest
   one_more f = sym (ap (λ (l : List Bool). l ++ rest) (map-append is_kept done (f ∷ [])) ∙ append_snoc (map is_kept done) (is_kept f) rest)
 
-  marks-kept : (marked : List Bool) → marked ≡ map is_kept done ++ replicate (max_options - i) false
+  marks_kept : (marked : List Bool) → marked ≡ map is_kept done ++ replicate (max_options - i) false
       → set marked i true ≡ map is_kept (done ++ (kept ∷ [])) ++ replicate (max_options - (i + 1)) false
   unfolding rest
-  marks-kept marked e =
+  marks_kept marked e =
       rw (e, left) (set_at (map is_kept done) false rest true i (length-map done is_kept ∙ sym counted) ∙ one_more kept)
 
-  marks-ignored : (marked : List Bool) → marked ≡ map is_kept done ++ replicate (max_options - i) false
+  marks_ignored : (marked : List Bool) → marked ≡ map is_kept done ++ replicate (max_options - i) false
       → marked ≡ map is_kept (done ++ (ignored ∷ [])) ++ replicate (max_options - (i + 1)) false
   unfolding rest
-  marks-ignored marked e = rw (e, left) (one_more ignored)
+  marks_ignored marked e = rw (e, left) (one_more ignored)
 
 module _ (rs : List OptionRecord) (marked : List Bool) (last i : ℕ) (w : Walk rs marked last i) (r : OptionRecord) (e : drop i rs ≡ r ∷ drop (i + 1) rs) where
-  falls-not : either (ltb r.number last) (falling r.number (drop (i + 1) rs)) ≡ false
-  falls-not = sym (ap (falling last) e) ∙ w.ordered
+  falls_not : either (ltb r.number last) (falling r.number (drop (i + 1) rs)) ≡ false
+  falls_not = sym (ap (falling last) e) ∙ w.ordered
 
   rises : last ≤ r.number
-  rises = ltb-false r.number last (neither (ltb r.number last) (falling r.number (drop (i + 1) rs)) falls-not).0
+  rises = ltb-false r.number last (neither (ltb r.number last) (falling r.number (drop (i + 1) rs)) falls_not).0
 
   later : falling r.number (drop (i + 1) rs) ≡ false
-  later = (neither (ltb r.number last) (falling r.number (drop (i + 1) rs)) falls-not).1
+  later = (neither (ltb r.number last) (falling r.number (drop (i + 1) rs)) falls_not).1
 
   -- The record is recognised exactly when it is by the last number kept.
   judged : recognised_after w.before r ≡ is_recognised (eqb r.number last) r
   judged =
       by_eq r.number 0
-      (λ z. zero-unknown (listed r.number w.before) r z ∙ sym (zero-unknown (eqb r.number last) r z))
+      (λ z. zero_unknown (listed r.number w.before) r z ∙ sym (zero_unknown (eqb r.number last) r z))
       (λ z. ap (λ (b : Bool). is_recognised b r) (w.tells r.number rises (omega arith)))
 
   -- What becomes of all, with what becomes of the record.
@@ -127,7 +127,7 @@ module _ (rs : List OptionRecord) (marked : List Bool) (last i : ℕ) (w : Walk 
         counted = more kept;
         whole = turned kept (w.before ++ (r.number ∷ [])) (rw (judged ∙ known));
         goes_on = λ fs. ap (first_rejected 0) (append_snoc w.done kept fs) ∙ w.goes_on (kept ∷ fs);
-        array = marks-kept w.done i w.counted room marked w.array;
+        array = marks_kept w.done i w.counted room marked w.array;
         ordered = later;
         tells = tells_next w.before last r.number rises w.tells;
       }
@@ -141,7 +141,7 @@ module _ (rs : List OptionRecord) (marked : List Bool) (last i : ℕ) (w : Walk 
         counted = more ignored;
         whole = turned ignored w.before (rw (judged ∙ unknown, elective));
         goes_on = λ fs. ap (first_rejected 0) (append_snoc w.done ignored fs) ∙ w.goes_on (ignored ∷ fs);
-        array = marks-ignored w.done i w.counted room marked w.array;
+        array = marks_ignored w.done i w.counted room marked w.array;
         ordered = falling_from last r.number (drop (i + 1) rs) rises later;
         tells = w.tells;
       }

@@ -1,5 +1,6 @@
 // The register of options: what an option's number says, and the check of a packet's options.
 #![tactic(auto)]
+
 ghost use Rattle.std.specs.Prelude.{◌≡◌, Bool, [], ◌≤◌};
 ghost use Rattle.rfc.specs.Option.{critical, unsafe, no_cache_key};
 ghost use Rattle.packet.specs.Packet.{stores, records_of};

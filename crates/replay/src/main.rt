@@ -3,6 +3,7 @@
 // verdict, which says why and for which message the replay ended where it did. A trace that is none gives the verdict alone. It is
 // read twice, so it may be of any length; from a pipe it is first copied to /tmp, and the room there bounds it.
 #![tactic(auto)]
+
 mod messages;
 mod shown;
 mod tallies;

@@ -1,5 +1,6 @@
 // Requests on the duplicate rule: one message heard over a table, and a whole trace replayed.
 #![tactic(auto)]
+
 mod heard;
 mod replayed;
 

@@ -10,7 +10,7 @@ use Rattle.stream.specs.declared.Form.{Form}
 use Rattle.hearing.specs.declared.Heard.{Heard}
 use Rattle.hearing.specs.Hearing.{heard_of}
 use Rattle.hearing.specs.Calls.{letter, Called, Calls, Ran}
-use Rattle.hearing.proofs.Going.{Going, begin, same_size, finish, next-length, stop, some-place, turn}
+use Rattle.hearing.proofs.Going.{Going, begin, same_size, finish, next_length, stop, some_place, turn}
 use Rattle.tracing.specs.Trace.{Timed}
 use Rattle.tracing.specs.TimedMessages.{traced_from}
 use Rattle.tracing.specs.Arrivals.{arrival_of, arrivals_of, Coming, arrival_at, no_arrival, arrived_in}
@@ -31,8 +31,8 @@ module _ (form : Form) (s : List ℕ) where
       record { rest = f.messages; follow = f.are; going = rw f.are (begin old table 0 (arrivals_of f.messages)); size = refl }
 
   module _ (c : Calls) (table₀ old table listing : List ℕ) (before at count : ℕ) (w : ReplayWalk c table₀ old table listing before at count) where
-    pub walk-size : length listing ≡ length old
-    walk-size = same_size c old table listing before count (arrivals_of w.rest) w.going
+    pub walk_size : length listing ≡ length old
+    walk_size = same_size c old table listing before count (arrivals_of w.rest) w.going
 
     pub walk_ends : length s ≤ at → Ran c old (given tt) count table listing
     walk_ends h = finish c old table listing before count (arrivals_of w.rest) w.going (ap arrivals_of (left_none form s at w.rest w.follow h))
@@ -44,22 +44,22 @@ module _ (form : Form) (s : List ℕ) where
       arrived : arrived_in m ≡ record { answer = given tt; value = record { arrival = arrival_of next_one.found.timed; next = next_one.found.next } }
       arrived = is ∙ (rw next_one.is refl)
 
-      pub walk-onward : at < m.next
-      walk-onward = omega (arith, next_one.onward, ap (λ (x : Beside Coming). x.value.next) arrived)
+      pub walk_onward : at < m.next
+      walk_onward = omega (arith, next_one.onward, ap (λ (x : Beside Coming). x.value.next) arrived)
 
       rest_is : arrivals_of w.rest ≡ (arrived_in m).value.arrival ∷ arrivals_of next_one.others
       rest_is = ap arrivals_of next_one.are ∙ ap (λ (x : Beside Coming). x.value.arrival ∷ arrivals_of next_one.others) (sym arrived)
 
       module _ (r : Heard) (next : List ℕ) (k : Called (length listing - count) before (arrived_in m).value.arrival table r next) where
-        pub walk-table : length next ≡ length table₀
-        walk-table = next-length c old table listing before count (arrivals_of w.rest) w.going (arrived_in m).value.arrival (arrivals_of next_one.others) rest_is r next k ∙ w.size
+        pub walk_table : length next ≡ length table₀
+        walk_table = next_length c old table listing before count (arrivals_of w.rest) w.going (arrived_in m).value.arrival (arrivals_of next_one.others) rest_is r next k ∙ w.size
 
-        pub walk-stops : (n : ℕ) → heard_of r ≡ refused n → Ran c old (refused n) count next listing
-        walk-stops n e = stop c old table listing before count (arrivals_of w.rest) w.going (arrived_in m).value.arrival (arrivals_of next_one.others) rest_is r next k n e
+        pub walk_stops : (n : ℕ) → heard_of r ≡ refused n → Ran c old (refused n) count next listing
+        walk_stops n e = stop c old table listing before count (arrivals_of w.rest) w.going (arrived_in m).value.arrival (arrivals_of next_one.others) rest_is r next k n e
 
         module _ (v : Verdict) (e : heard_of r ≡ given v) where
-          pub walk-place : count < length listing
-          walk-place = some-place c old table listing before count (arrivals_of w.rest) w.going (arrived_in m).value.arrival (arrivals_of next_one.others) rest_is r next k v e
+          pub walk_place : count < length listing
+          walk_place = some_place c old table listing before count (arrivals_of w.rest) w.going (arrived_in m).value.arrival (arrivals_of next_one.others) rest_is r next k v e
 
           pub walk_turn : (byte : ℕ) → byte ≡ letter v → ReplayWalk c table₀ old next (set listing count byte) m.time m.next (count + 1)
           walk_turn byte b =
@@ -67,5 +67,5 @@ module _ (form : Form) (s : List ℕ) where
                 rest = next_one.others;
                 follow = ap (λ (x : Beside Coming). traced_from form s x.value.next) arrived ∙ next_one.left;
                 going = turn c old table listing before count (arrivals_of w.rest) w.going (arrived_in m).value.arrival (arrivals_of next_one.others) rest_is r next k v e byte b;
-                size = walk-table;
+                size = walk_table;
               }

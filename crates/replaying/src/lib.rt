@@ -1,5 +1,6 @@
 // A trace replayed: its messages, one after the other, through the duplicate rule over a lent table, with a listing of what each is.
 #![tactic(auto)]
+
 ghost use Rattle.std.specs.Prelude.{length};
 ghost use Rattle.refusal.specs.Answer.{outcome};
 ghost use Rattle.hearing.specs.Calls.{Called, Ran};

@@ -1,5 +1,6 @@
 // What the programs say besides their output: refusals by number and name, the verdict, and how far they are.
 #![tactic(auto)]
+
 use decimal::put_decimal;
 use libc::{STDERR_FILENO, STDOUT_FILENO};
 use placing::{put_byte, put_bytes};

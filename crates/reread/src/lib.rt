@@ -1,6 +1,7 @@
 // Standard input for a program that reads it twice, first to judge it and then to work on it: the file itself, or a copy of it
 // where it is a pipe or a terminal. The copy goes to a file in /tmp that has no name by the time it is read.
 #![tactic(auto)]
+
 ghost use Rattle.std.specs.Prelude.{◌+◌};
 
 use libc::{SEEK_CUR, SEEK_SET, STDIN_FILENO};

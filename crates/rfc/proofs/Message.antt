@@ -9,35 +9,35 @@ use Rattle.ground.specs.Part.{Bytes}
 use Rattle.ground.proofs.Choice.{on_lt}
 
 module _ (n : ℕ) where
-  pub nibble-none : n < 13 → nibble_of n ≡ n
+  pub nibble_none : n < 13 → nibble_of n ≡ n
   unfolding nibble_of
-  nibble-none h = rw (lt-ltb n 13 h)
+  nibble_none h = rw (lt-ltb n 13 h)
 
-  pub nibble-one : 13 ≤ n → n < 269 → nibble_of n ≡ 13
+  pub nibble_one : 13 ≤ n → n < 269 → nibble_of n ≡ 13
   unfolding nibble_of
-  nibble-one h l = rw (le-ltb n 13 h, lt-ltb n 269 l)
+  nibble_one h l = rw (le-ltb n 13 h, lt-ltb n 269 l)
 
-  pub nibble-two : 269 ≤ n → nibble_of n ≡ 14
+  pub nibble_two : 269 ≤ n → nibble_of n ≡ 14
   unfolding nibble_of
-  nibble-two h = let low : 13 ≤ n = omega arith in rw (le-ltb n 13 low, le-ltb n 269 h)
+  nibble_two h = let low : 13 ≤ n = omega arith in rw (le-ltb n 13 low, le-ltb n 269 h)
 
-  pub extension-none : n < 13 → extension_of n ≡ []
+  pub extension_none : n < 13 → extension_of n ≡ []
   unfolding extension_of
-  extension-none h = rw (lt-ltb n 13 h)
+  extension_none h = rw (lt-ltb n 13 h)
 
-  pub extension-one : 13 ≤ n → n < 269 → extension_of n ≡ ((n - 13) ∷ [])
+  pub extension_one : 13 ≤ n → n < 269 → extension_of n ≡ ((n - 13) ∷ [])
   unfolding extension_of
-  extension-one h l = rw (le-ltb n 13 h, lt-ltb n 269 l)
+  extension_one h l = rw (le-ltb n 13 h, lt-ltb n 269 l)
 
-  pub extension-two : 269 ≤ n → extension_of n ≡ (((n - 269) / 256) ∷ ((n - 269) % 256) ∷ [])
+  pub extension_two : 269 ≤ n → extension_of n ≡ (((n - 269) / 256) ∷ ((n - 269) % 256) ∷ [])
   unfolding extension_of
-  extension-two h = let low : 13 ≤ n = omega arith in rw (le-ltb n 13 low, le-ltb n 269 h)
+  extension_two h = let low : 13 ≤ n = omega arith in rw (le-ltb n 13 low, le-ltb n 269 h)
 
-  pub nibble-small : nibble_of n ≤ 14
+  pub nibble_small : nibble_of n ≤ 14
   unfolding nibble_of
-  nibble-small = on_lt (λ (m : ℕ). m ≤ 14) n 13 (λ h. omega arith) (λ h. on_lt (λ (m : ℕ). m ≤ 14) n 269 (λ l. omega arith) (λ l. omega arith))
+  nibble_small = on_lt (λ (m : ℕ). m ≤ 14) n 13 (λ h. omega arith) (λ h. on_lt (λ (m : ℕ). m ≤ 14) n 269 (λ l. omega arith) (λ l. omega arith))
 
   -- The extension of a number up to 65804 is bytes.
-  pub extension-bytes : n ≤ 65804 → Bytes (extension_of n)
+  pub extension_bytes : n ≤ 65804 → Bytes (extension_of n)
   unfolding extension_of
-  extension-bytes small = on_lt Bytes n 13 (λ h. tt) (λ h. on_lt Bytes n 269 (λ l. (omega arith, tt)) (λ l. (omega arith, (omega arith, tt))))
+  extension_bytes small = on_lt Bytes n 13 (λ h. tt) (λ h. on_lt Bytes n 269 (λ l. (omega arith, tt)) (λ l. (omega arith, (omega arith, tt))))

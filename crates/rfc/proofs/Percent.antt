@@ -43,16 +43,16 @@ free_append x (c ∷ s) t f g = (f.0, free_append x s t f.1 g)
 
 -- A value's text is free of a character other than `%` that isn't literal.
 module _ (kind : Kind) (x : ℕ) (no : literal kind x ≡ false) (other : 0x25 ≡ x → ⊥) where
-  coded-free : (b : ℕ) → b < 256 → Free x (coded kind b)
+  coded_free : (b : ℕ) → b < 256 → Free x (coded kind b)
   unfolding coded
-  coded-free b h =
+  coded_free b h =
       on (Free x) (literal kind b)
       (λ e. (literal_not kind b x e no, tt))
       (λ e. (other, (literal_not kind (hex_digit (b / 16)) x (hex_literal kind (b / 16) (omega arith)) no, (literal_not kind (hex_digit (b % 16)) x (hex_literal kind (b % 16) (omega arith)) no, tt))))
 
   pub code_free : (v : List ℕ) → Bytes v → Free x (code kind v)
   code_free [] b = tt
-  code_free (c ∷ v) b = free_append x (coded kind c) (code kind v) (coded-free c b.0) (code_free v b.1)
+  code_free (c ∷ v) b = free_append x (coded kind c) (code kind v) (coded_free c b.0) (code_free v b.1)
 
 -- A refusal is no value.
 pub no_text : {A : Type 0} (a : A) → bad_text ≡ good a → ⊥

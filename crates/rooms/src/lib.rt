@@ -1,5 +1,6 @@
 // A room that is lent to a writer, with bytes in it that are known before, and the answer that says whether the others are kept.
 #![tactic(auto)]
+
 use refusal::Written;
 use telling::Told;
 

@@ -25,9 +25,9 @@ use Rattle.reading.specs.Options.{Tail, options}
 use Rattle.reading.specs.Headed.{good_header, headed}
 use Rattle.reading.specs.Reading.{longest, packet_of, finished, reading}
 use Rattle.reading.proofs.Accept.{records_found, found as follows}
-use Rattle.reading.proofs.Headed.{Opened, headed-opens}
+use Rattle.reading.proofs.Headed.{Opened, headed_opens}
 use Rattle.reading.proofs.Taken.{Taken, taken}
-use Rattle.reading.proofs.Walk.{ahead, ahead_none, ahead_before, options-refused, options-ended, options-full, options-more}
+use Rattle.reading.proofs.Walk.{ahead, ahead_none, ahead_before, options_refused, options_ended, options_full, options_more}
 use Rattle.flat.specs.Flat.{flat_head, flat_records, flat}
 use Rattle.flat.proofs.Flat.{no_room, puts}
 use Rattle.scanning.specs.Scanning.{Span, last_end, span_of, judged, scanned, flat_read}
@@ -72,33 +72,33 @@ module _ (longest : ℕ) (s : List ℕ) (from : ℕ) where
         ∙ (get_or-set_same places count at 0 (omega (arith, y, e, n))
         ∙ (g.ends ∙ ap (last_end from) (sym (take-append_seam rs (r ∷ [])) ∙ ap (λ (i : ℕ). take i (rs ++ (r ∷ []))) (sym e)))))
 
-    pub going-turn : (r : OptionRecord) → place_at longest s number at ≡ given (option r) → count < 128 → end r ≤ length s
+    pub going_turn : (r : OptionRecord) → place_at longest s number at ≡ given (option r) → count < 128 → end r ≤ length s
         → Going (set places count at) (count + 1) r.number (end r)
-    going-turn r e h inside =
+    going_turn r e h inside =
         let left : 128 - count ≡ suc (128 - (count + 1)) = omega arith in
         record {
           passed = g.passed ++ (r ∷ []);
           counted = simp length-append (omega (arith, g.counted));
           room = omega arith;
           inside = inside;
-          whole = g.whole ∙ (rw left (ap (ahead g.passed) (options-more longest s (128 - (count + 1)) number at r e))
+          whole = g.whole ∙ (rw left (ap (ahead g.passed) (options_more longest s (128 - (count + 1)) number at r e))
               ∙ ahead_before g.passed r (options longest s (128 - (count + 1)) r.number (end r)));
           ends = sym (last_end_lem from g.passed r);
           noted = noted_more r;
         }
 
-    pub going-refuses : (k : ℕ) → place_at longest s number at ≡ refused k → options longest s 128 0 from ≡ refused k
-    going-refuses k e = g.whole ∙ ap (ahead g.passed) (options-refused longest s (128 - count) number at k e)
+    pub going_refuses : (k : ℕ) → place_at longest s number at ≡ refused k → options longest s 128 0 from ≡ refused k
+    going_refuses k e = g.whole ∙ ap (ahead g.passed) (options_refused longest s (128 - count) number at k e)
 
-    pub going-overflows : (r : OptionRecord) → place_at longest s number at ≡ given (option r) → 128 ≤ count → options longest s 128 0 from ≡ refused 6
-    going-overflows r e h =
+    pub going_overflows : (r : OptionRecord) → place_at longest s number at ≡ given (option r) → 128 ≤ count → options longest s 128 0 from ≡ refused 6
+    going_overflows r e h =
         let left : 128 - count ≡ 0 = omega arith in
-        g.whole ∙ rw left (ap (ahead g.passed) (options-full longest s number at r e))
+        g.whole ∙ rw left (ap (ahead g.passed) (options_full longest s number at r e))
 
-    pub going-ends : (marked : Bool) (payload : ℕ) → place_at longest s number at ≡ given (ended marked payload)
+    pub going_ends : (marked : Bool) (payload : ℕ) → place_at longest s number at ≡ given (ended marked payload)
         → options longest s 128 0 from ≡ given (record { records = g.passed; marked = marked; payload = payload })
-    going-ends marked payload e =
-        g.whole ∙ (ap (ahead g.passed) (options-ended longest s (128 - count) number at marked payload e)
+    going_ends marked payload e =
+        g.whole ∙ (ap (ahead g.passed) (options_ended longest s (128 - count) number at marked payload e)
         ∙ ap (λ (l : List OptionRecord). given (record { records = l; marked = marked; payload = payload })) (append-nil g.passed))
 
 -- What a walk tells at its end.
@@ -115,14 +115,14 @@ told_refused strict s start most places m k e = told strict s start most places 
 
 -- The span of an end that is no bare marker in strict mode, and the refusal of one that is.
 module _ (strict : Bool) (s : List ℕ) (start : ℕ) (t : Tail) where
-  pub spanned-alone : both strict (both t.marked (eqb t.payload (length s))) ≡ true → refused 9 ≡ spanned strict s start t
+  pub spanned_alone : both strict (both t.marked (eqb t.payload (length s))) ≡ true → refused 9 ≡ spanned strict s start t
   unfolding spanned
-  spanned-alone e = rw e
+  spanned_alone e = rw e
 
-  pub spanned-well : both strict (both t.marked (eqb t.payload (length s))) ≡ false
+  pub spanned_well : both strict (both t.marked (eqb t.payload (length s))) ≡ false
       → given (record { count = length t.records; end = last_end start t.records; payload = t.payload }) ≡ spanned strict s start t
   unfolding spanned
-  spanned-well e = rw e
+  spanned_well e = rw e
 
 -- The span of what was found is that of the packet.
 pub spanned_is : (strict : Bool) (s : List ℕ) (raw : HeaderRaw) (a : Answer Tail)
@@ -162,12 +162,12 @@ headed_at strict s =
 
 -- A header that is refused refuses the datagram, and a good one leaves it to the options.
 module _ (strict : Bool) (s : List ℕ) where
-  pub headed-refused : (k : ℕ) → headed strict s ≡ refused k → reading strict s ≡ refused k
-  headed-refused k e = (subst (Opened strict s (reading strict s)) e (headed-opens strict s)).is
+  pub headed_refused : (k : ℕ) → headed strict s ≡ refused k → reading strict s ≡ refused k
+  headed_refused k e = (subst (Opened strict s (reading strict s)) e (headed_opens strict s)).is
 
-  pub headed-open : (raw : HeaderRaw) → headed strict s ≡ given raw → Open strict s (4 + token_of raw)
-  headed-open raw e =
-      let o = subst (Opened strict s (reading strict s)) e (headed-opens strict s) in
+  pub headed_open : (raw : HeaderRaw) → headed strict s ≡ given raw → Open strict s (4 + token_of raw)
+  headed_open raw e =
+      let o = subst (Opened strict s (reading strict s)) e (headed_opens strict s) in
       let first : raw ≡ raw_header_at s = on_given (λ (r : HeaderRaw). r ≡ raw_header_at s) (headed strict s) raw (headed_at strict s) e in
       record {
         is = ap (λ (r : HeaderRaw). 4 + token_of r) first;
@@ -183,44 +183,44 @@ never false = refl
 
 -- Where no option stands there are none: the walk ends at the datagram's end, or with the marker.
 module _ (strict : Bool) (s : List ℕ) (at : ℕ) where
-  none-at-end : at ≤ length s → length s ≤ at → options (longest strict) s 128 0 at ≡ given (record { records = []; marked = false; payload = at })
+  none_at_end : at ≤ length s → length s ≤ at → options (longest strict) s 128 0 at ≡ given (record { records = []; marked = false; payload = at })
   unfolding place_at
-  none-at-end i h =
+  none_at_end i h =
       let e : length s ≡ at = omega arith in
-      options-ended (longest strict) s 128 0 at false at (rw (le-leb (length s) at h) (ap (λ (n : ℕ). given (ended false n)) e))
+      options_ended (longest strict) s 128 0 at false at (rw (le-leb (length s) at h) (ap (λ (n : ℕ). given (ended false n)) e))
 
-  marked-at : at < length s → stands s at ≡ false → options (longest strict) s 128 0 at ≡ given (record { records = []; marked = true; payload = at + 1 })
+  marked_at : at < length s → stands s at ≡ false → options (longest strict) s 128 0 at ≡ given (record { records = []; marked = true; payload = at + 1 })
   unfolding place_at stands
-  marked-at h n =
+  marked_at h n =
       let b = lt-leb (length s) at h in
       let m : eqb (get_or s at 0) 255 ≡ true = not-false (eqb (get_or s at 0) 255) (rw b at n) in
-      options-ended (longest strict) s 128 0 at true (at + 1) (rw (b, m))
+      options_ended (longest strict) s 128 0 at true (at + 1) (rw (b, m))
 
-  none-stand : at ≤ length s → stands s at ≡ false → options_from strict s at ≡ []
-  none-stand i n = by_lt at (length s) (λ h. ap found (marked-at h n)) (λ h. ap found (none-at-end i h))
+  none_stand : at ≤ length s → stands s at ≡ false → options_from strict s at ≡ []
+  none_stand i n = by_lt at (length s) (λ h. ap found (marked_at h n)) (λ h. ap found (none_at_end i h))
 
   pub none_found : Open strict s at → stands s at ≡ false → options_from strict s (start s) ≡ []
-  none_found o n = ap (options_from strict s) (sym o.is) ∙ none-stand o.inside n
+  none_found o n = ap (options_from strict s) (sym o.is) ∙ none_stand o.inside n
 
-  spans-as : (t : Tail) → options (longest strict) s 128 0 at ≡ given t → spans strict s at ≡ spanned strict s at t
-  spans-as t e = ap (λ (x : Answer Tail). onward x (spanned strict s at)) e
+  spans_as : (t : Tail) → options (longest strict) s 128 0 at ≡ given t → spans strict s at ≡ spanned strict s at t
+  spans_as t e = ap (λ (x : Answer Tail). onward x (spanned strict s at)) e
 
   -- What is told of them.
-  pub bare-end : at ≤ length s → length s ≤ at → given (record { count = 0; end = at; payload = at }) ≡ spans strict s at
-  bare-end i h =
+  pub bare_end : at ≤ length s → length s ≤ at → given (record { count = 0; end = at; payload = at }) ≡ spans strict s at
+  bare_end i h =
       let t : Tail = record { records = []; marked = false; payload = at } in
-      spanned-well strict s at t (never strict) ∙ sym (spans-as t (none-at-end i h))
+      spanned_well strict s at t (never strict) ∙ sym (spans_as t (none_at_end i h))
 
-  pub bare-alone : at < length s → stands s at ≡ false → both strict (eqb (at + 1) (length s)) ≡ true → refused 9 ≡ spans strict s at
-  bare-alone h n e =
+  pub bare_alone : at < length s → stands s at ≡ false → both strict (eqb (at + 1) (length s)) ≡ true → refused 9 ≡ spans strict s at
+  bare_alone h n e =
       let t : Tail = record { records = []; marked = true; payload = at + 1 } in
-      spanned-alone strict s at t e ∙ sym (spans-as t (marked-at h n))
+      spanned_alone strict s at t e ∙ sym (spans_as t (marked_at h n))
 
-  pub bare-well : at < length s → stands s at ≡ false → both strict (eqb (at + 1) (length s)) ≡ false
+  pub bare_well : at < length s → stands s at ≡ false → both strict (eqb (at + 1) (length s)) ≡ false
       → given (record { count = 0; end = at; payload = at + 1 }) ≡ spans strict s at
-  bare-well h n e =
+  bare_well h n e =
       let t : Tail = record { records = []; marked = true; payload = at + 1 } in
-      spanned-well strict s at t e ∙ sym (spans-as t (marked-at h n))
+      spanned_well strict s at t e ∙ sym (spans_as t (marked_at h n))
 
 -- The numbers before the options, of the packet that is read.
 head_is : (s : List ℕ) (t : Tail) → let p = packet_of s (raw_header_at s) t in head_in s t.payload (length t.records) ≡ flat_head p.header p.token p.payload (length t.records)
@@ -276,25 +276,25 @@ good strict s b m e =
 
 -- What scanning shows: a refusal, too little room, and the head and the options put one after the other.
 module _ (strict : Bool) (s old : List ℕ) where
-  pub scan-refused : (k : ℕ) → reading strict s ≡ refused k
+  pub scan_refused : (k : ℕ) → reading strict s ≡ refused k
       → (refused k ≡ scanned strict (length old) s) × (old ≡ after (scanned strict (length old) s) 0 (flat_read strict s) old)
-  scan-refused k e = rw e (refl, refl)
+  scan_refused k e = rw e (refl, refl)
 
   module _ (m : Span) (g : Good strict s m) where
-    pub scan-full : length old < 11 + 4 * m.count
+    pub scan_full : length old < 11 + 4 * m.count
         → (refused 12 ≡ scanned strict (length old) s) × (old ≡ after (scanned strict (length old) s) 0 (flat_read strict s) old)
-    scan-full h = rw g.read (no_room g.packet old (omega (arith, g.count)))
+    scan_full h = rw g.read (no_room g.packet old (omega (arith, g.count)))
 
-    pub scan-puts : 11 + 4 * m.count ≤ length old → (mid new : List ℕ) → mid ≡ sets old 0 (head_in s m.payload m.count)
+    pub scan_puts : 11 + 4 * m.count ≤ length old → (mid new : List ℕ) → mid ≡ sets old 0 (head_in s m.payload m.count)
         → new ≡ sets mid 11 (flat_records (options_from strict s (start s)))
         → (given tt ≡ scanned strict (length old) s) × (new ≡ after (scanned strict (length old) s) 0 (flat_read strict s) old)
-    scan-puts h mid new a b =
+    scan_puts h mid new a b =
         rw g.read
         (puts g.packet old mid new (omega (arith, g.count)) (a ∙ ap (sets old 0) g.head) (b ∙ ap (λ (rs : List OptionRecord). sets mid 11 (flat_records rs)) g.records))
 
     -- A message with no options is its head.
-    pub scan-head : options_from strict s (start s) ≡ [] → 11 ≤ length old → (new : List ℕ) → new ≡ sets old 0 (head_in s m.payload m.count)
+    pub scan_head : options_from strict s (start s) ≡ [] → 11 ≤ length old → (new : List ℕ) → new ≡ sets old 0 (head_in s m.payload m.count)
         → (given tt ≡ scanned strict (length old) s) × (new ≡ after (scanned strict (length old) s) 0 (flat_read strict s) old)
-    scan-head none h new a =
+    scan_head none h new a =
         let few : m.count ≡ 0 = g.count ∙ ap length (sym g.records ∙ none) in
-        scan-puts (omega arith) new new a (ap (λ (rs : List OptionRecord). sets new 11 (flat_records rs)) (sym none))
+        scan_puts (omega arith) new new a (ap (λ (rs : List OptionRecord). sets new 11 (flat_records rs)) (sym none))

@@ -161,9 +161,9 @@ module _ (strict : Bool) (s places : List ℕ) (count : ℕ) (old out : List ℕ
         onward = rw (one, last_end_lem (start s) (take i rs) n.r) n.onward;
       }
 
-  pub second-turn : (l : i < count) (a : Here strict s i number (get_or places i 0)) (value next len : ℕ) → value ≡ number + a.plain.delta.value → next ≡ a.plain.size.next → len ≡ a.plain.size.value
+  pub second_turn : (l : i < count) (a : Here strict s i number (get_or places i 0)) (value next len : ℕ) → value ≡ number + a.plain.delta.value → next ≡ a.plain.size.next → len ≡ a.plain.size.value
       → Second strict s places count old (set (set (set (set out (11 + 4 * i) value) (11 + 4 * i + 1) 0) (11 + 4 * i + 2) next) (11 + 4 * i + 3) len) value (i + 1)
-  second-turn l a value next len e f g =
+  second_turn l a value next len e f g =
       let is = a.plain.is in
       let number : a.r.number ≡ value = ap (λ (r : OptionRecord). r.number) is ∙ sym e in
       record {

@@ -1,6 +1,7 @@
 // A datagram read straight into a lent slice of numbers, the flat form of its packet, with no packet made of it: a first walk
 // judges the datagram and counts its options, and a second one puts them and judges nothing again.
 #![tactic(auto)]
+
 ghost use Rattle.std.specs.Prelude.{◌≡◌, Bool, ◌+◌, ◌*◌, ◌≤◌, ◌<◌, length, set};
 ghost use Rattle.std.proofs.lemmas.List.Edits.{sets};
 ghost use Rattle.refusal.specs.Answer.{outcome, after};

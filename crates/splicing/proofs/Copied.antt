@@ -42,8 +42,8 @@ pub fills_none : (whole : List OptionRecord) (count : ℕ) → count ≤ max_opt
 fills_none whole count h e = record { fits = h; long = e; place = omega arith; copied = copied_none }
 
 module _ (whole records : List OptionRecord) (count i : ℕ) (w : Filling whole records count i) where
-  pub fills-more : i < count → (y : OptionRecord) → y ≡ get_or whole i none → Filling whole (set records i y) count (i + 1)
-  fills-more h y e =
+  pub fills_more : i < count → (y : OptionRecord) → y ≡ get_or whole i none → Filling whole (set records i y) count (i + 1)
+  fills_more h y e =
       let inside : i < length whole = omega (arith, w.long) in
       let next : take (i + 1) whole ≡ take i whole ++ (y ∷ []) = rw (add-one, take-suc whole i none inside, e) refl in
       record {
@@ -54,8 +54,8 @@ module _ (whole records : List OptionRecord) (count i : ℕ) (w : Filling whole 
       }
 
   -- The packet that is made of them.
-  pub fills-all : count ≤ i → (p : Packet) → record { header = p.header; token = p.token; count = count; options = records; payload = p.payload } ≡ with_records p whole
-  fills-all h p =
+  pub fills_all : count ≤ i → (p : Packet) → record { header = p.header; token = p.token; count = count; options = records; payload = p.payload } ≡ with_records p whole
+  fills_all h p =
       let at_end : i ≡ length whole = omega (arith, w.place, w.long) in
       let all : take i whole ≡ whole = take_all i whole (omega arith) in
       let options : records ≡ whole ++ replicate (max_options - length whole) none = w.copied.array ∙ cc (all, at_end) in

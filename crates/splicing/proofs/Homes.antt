@@ -38,8 +38,8 @@ homeless_past (a ∷ b ∷ c ∷ l) (suc k) h =
 
 -- What an edit answers where a home is bad, and where all are good.
 module _ (l : List ℕ) (edit : List Range → Answer Packet) where
-  pub at-no-home : homeless l ≡ true → refused 11 ≡ homed l edit
-  at-no-home e = rw e refl
+  pub at_no_home : homeless l ≡ true → refused 11 ≡ homed l edit
+  at_no_home e = rw e refl
 
   pub at_home : homeless l ≡ false → edit (ranges_in l) ≡ homed l edit
   at_home e = rw e refl

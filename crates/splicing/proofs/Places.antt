@@ -16,20 +16,20 @@ use Rattle.splicing.specs.Splice.{with_records, roomy, record_of, home_of, range
 
 -- What stands at each place of a splice.
 module _ (low high : ℕ) (new rs : List OptionRecord) (l : low ≤ length rs) where
-  before-is : length (take low rs) ≡ low
-  before-is = length-take-le low rs l
+  before_is : length (take low rs) ≡ low
+  before_is = length-take-le low rs l
 
-  pub length-spliced : length (spliced low high new rs) ≡ low + (length new + (length rs - high))
-  length-spliced = simp (length-append, length-drop) (omega (arith, before-is))
+  pub length_spliced : length (spliced low high new rs) ≡ low + (length new + (length rs - high))
+  length_spliced = simp (length-append, length-drop) (omega (arith, before_is))
 
-  pub at-lower : (i : ℕ) → i < low → get_or (spliced low high new rs) i none ≡ get_or rs i none
-  at-lower i h =
-      let inside : i < length (take low rs) = omega (arith, before-is) in
+  pub at_lower : (i : ℕ) → i < low → get_or (spliced low high new rs) i none ≡ get_or rs i none
+  at_lower i h =
+      let inside : i < length (take low rs) = omega (arith, before_is) in
       get_or-append (take low rs) (new ++ drop high rs) none i inside ∙ get_or-take low rs i none h
 
   past : (k : ℕ) → get_or (spliced low high new rs) (low + k) none ≡ get_or (new ++ drop high rs) k none
   past k =
-      ap (λ (m : ℕ). get_or (spliced low high new rs) (m + k) none) (sym before-is)
+      ap (λ (m : ℕ). get_or (spliced low high new rs) (m + k) none) (sym before_is)
       ∙ get_or-append-add (take low rs) (new ++ drop high rs) k none
 
   pub at_new : (i : ℕ) → low ≤ i → i < low + length new → get_or (spliced low high new rs) i none ≡ get_or new (i - low) none
@@ -38,8 +38,8 @@ module _ (low high : ℕ) (new rs : List OptionRecord) (l : low ≤ length rs) w
       ap (λ (m : ℕ). get_or (spliced low high new rs) m none) e
       ∙ (past (i - low) ∙ get_or-append new (drop high rs) none (i - low) (omega arith))
 
-  pub at-higher : (i : ℕ) → low + length new ≤ i → get_or (spliced low high new rs) i none ≡ get_or rs (high + (i - low - length new)) none
-  at-higher i h =
+  pub at_higher : (i : ℕ) → low + length new ≤ i → get_or (spliced low high new rs) i none ≡ get_or rs (high + (i - low - length new)) none
+  at_higher i h =
       let e : i ≡ low + (length new + (i - low - length new)) = omega arith in
       ap (λ (m : ℕ). get_or (spliced low high new rs) m none) e
       ∙ (past (length new + (i - low - length new))
@@ -76,45 +76,45 @@ module _ (p : Packet) (n low high : ℕ) (l : List ℕ) (low_in : low ≤ length
   abbrev whole : List OptionRecord
   whole = spliced low high new (records_of p)
 
-  new-long : length new ≡ length l / 3
-  new-long = length-map (ranges_in l) (record_of n) ∙ length_ranges l
+  new_long : length new ≡ length l / 3
+  new_long = length-map (ranges_in l) (record_of n) ∙ length_ranges l
 
   pub whole_long : length whole ≡ low + length l / 3 + (length (records_of p) - high)
-  whole_long = omega (arith, length-spliced low high new (records_of p) low_in, new-long)
+  whole_long = omega (arith, length_spliced low high new (records_of p) low_in, new_long)
 
   -- A record in use stands in the array at its place.
   in_array : (i : ℕ) → i < length (records_of p) → get_or (records_of p) i none ≡ get_or p.options i none
   in_array i h = get_or-take p.count p.options i none (omega (arith, length-take p.count p.options))
 
-  pub from-lower : (i : ℕ) → i < low → get_or p.options i none ≡ get_or whole i none
-  from-lower i h = sym (at-lower low high new (records_of p) low_in i h ∙ in_array i (omega arith))
+  pub from_lower : (i : ℕ) → i < low → get_or p.options i none ≡ get_or whole i none
+  from_lower i h = sym (at_lower low high new (records_of p) low_in i h ∙ in_array i (omega arith))
 
-  pub from-new : (i : ℕ) → low ≤ i → i < low + length l / 3
+  pub from_new : (i : ℕ) → low ≤ i → i < low + length l / 3
       → record_at n (get_or l ((i - low) * 3) 0) (get_or l ((i - low) * 3 + 1) 0) (get_or l ((i - low) * 3 + 2) 0) ≡ get_or whole i none
-  from-new i h k =
-      sym (at_new low high new (records_of p) low_in i h (omega (arith, new-long)) ∙ range_at n l (i - low) (omega (arith, length_ranges l)))
+  from_new i h k =
+      sym (at_new low high new (records_of p) low_in i h (omega (arith, new_long)) ∙ range_at n l (i - low) (omega (arith, length_ranges l)))
 
-  pub from-higher : (i : ℕ) → low + length l / 3 ≤ i → i < low + length l / 3 + (length (records_of p) - high)
+  pub from_higher : (i : ℕ) → low + length l / 3 ≤ i → i < low + length l / 3 + (length (records_of p) - high)
       → get_or p.options (high + (i - (low + length l / 3))) none ≡ get_or whole i none
-  from-higher i h k =
-      let at : i - low - length new ≡ i - (low + length l / 3) = omega (arith, new-long) in
-      sym (at-higher low high new (records_of p) low_in i (omega (arith, new-long))
+  from_higher i h k =
+      let at : i - low - length new ≡ i - (low + length l / 3) = omega (arith, new_long) in
+      sym (at_higher low high new (records_of p) low_in i (omega (arith, new_long))
       ∙ (ap (λ (m : ℕ). get_or (records_of p) (high + m) none) at ∙ in_array (high + (i - (low + length l / 3))) (omega arith)))
 
 -- A place past the end is the end.
 module _ (rs : List OptionRecord) (used low : ℕ) (u : used ≡ length rs) where
-  before-within : (n : ℕ) → n ≡ min low used → take n rs ≡ take low rs
-  before-within n e =
+  before_within : (n : ℕ) → n ≡ min low used → take n rs ≡ take low rs
+  before_within n e =
       by_lt low (length rs) (λ h. let same : n ≡ low = omega arith in rw same)
       (λ h. let end : n ≡ length rs = omega arith in rw end (take-length rs ∙ sym (take_all low rs h)))
 
-  after-within : (n : ℕ) → n ≡ min low used → drop n rs ≡ drop low rs
-  after-within n e =
+  after_within : (n : ℕ) → n ≡ min low used → drop n rs ≡ drop low rs
+  after_within n e =
       by_lt low (length rs) (λ h. let same : n ≡ low = omega arith in rw same)
       (λ h. drop_of_length-le rs {i = n} (omega arith) ∙ sym (drop_of_length-le rs h))
 
 pub spliced_within : (new rs : List OptionRecord) (used low high from to : ℕ) → used ≡ length rs → from ≡ min low used → to ≡ min high used → spliced from to new rs ≡ spliced low high new rs
-spliced_within new rs used low high from to u f t = rw (before-within rs used low u from f, after-within rs used high u to t) refl
+spliced_within new rs used low high from to u f t = rw (before_within rs used low u from f, after_within rs used high u to t) refl
 
 -- Too many records, and records for which there is room.
 module _ (p : Packet) (rs : List OptionRecord) where

@@ -1,5 +1,6 @@
 // Records of a packet replaced by new ones: what every edit of options does, once it knows between which places.
 #![tactic(auto)]
+
 ghost use Rattle.std.specs.Prelude.{◌≡◌, map, ◌/◌, min, length};
 ghost use Rattle.refusal.specs.Answer.{given, refused};
 ghost use Rattle.refusal.specs.Number.{number_of};

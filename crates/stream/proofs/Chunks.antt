@@ -26,11 +26,11 @@ module _ (form : Form) (d : List ℕ) (i n : ℕ) (least : n ≡ min (full form)
   count : n ≡ min (full form) (length (drop i d))
   count = least ∙ ap (min (full form)) (sym (length-drop i d))
 
-  pub next-bytes : take n (drop i d) ≡ take (full form) (drop i d)
-  next-bytes = ap (λ (k : ℕ). take k (drop i d)) count ∙ take_least (full form) (drop i d)
+  pub next_bytes : take n (drop i d) ≡ take (full form) (drop i d)
+  next_bytes = ap (λ (k : ℕ). take k (drop i d)) count ∙ take_least (full form) (drop i d)
 
-  pub next-rest : drop (i + n) d ≡ drop (full form) (drop i d)
-  next-rest = sym (drop-drop n i d) ∙ (ap (λ (k : ℕ). drop k (drop i d)) count ∙ drop_least (full form) (drop i d))
+  pub next_rest : drop (i + n) d ≡ drop (full form) (drop i d)
+  next_rest = sym (drop-drop n i d) ∙ (ap (λ (k : ℕ). drop k (drop i d)) count ∙ drop_least (full form) (drop i d))
 
-  pub next-length : length (take (full form) (drop i d)) ≡ n
-  next-length = length-take (full form) (drop i d) ∙ sym count
+  pub next_length : length (take (full form) (drop i d)) ≡ n
+  next_length = length-take (full form) (drop i d) ∙ sym count

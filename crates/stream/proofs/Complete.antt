@@ -31,13 +31,13 @@ head_length New n = refl
 
 -- The head of a chunk says its count, and is no kind 3.
 module _ (s : List ℕ) (at n : ℕ) (rest : List ℕ) (inside : at ≤ length s) (some : 1 ≤ n) where
-  pub count-says : (form : Form) → n ≤ full form → drop at s ≡ head form n ++ rest → count_at form s at ≡ n
+  pub count_says : (form : Form) → n ≤ full form → drop at s ≡ head form n ++ rest → count_at form s at ≡ n
   unfolding count_at
-  count-says Old small e =
+  count_says Old small e =
       let a : get_or s at 0 ≡ 2 = rw add-zero at (byte s at (2 ∷ n ∷ []) rest e inside 0 (omega arith)) in
       let b : get_or s (at + 1) 0 ≡ n = byte s at (2 ∷ n ∷ []) rest e inside 1 (omega arith) in
       rw (eq-eqb (get_or s at 0) 2 a) b
-  count-says New small e =
+  count_says New small e =
       by_eq n 64
       (λ q.
       let a : get_or s at 0 ≡ 4 = rw add-zero at (byte s at (pick (eqb n 64) 4 (128 + n) ∷ []) rest e inside 0 (omega arith)) ∙ rw (eq-eqb n 64 q) refl in
@@ -86,7 +86,7 @@ chunk_complete form s at c rest some small h e =
     let h₃ : a₂ + n ≤ length s = fits s a₂ c (z ++ rest) e₂ h₂ in
     let e₄ : drop (a₂ + n + padding form n) s ≡ rest = rw zl at (past s (a₂ + n) z rest e₃ h₃) in
     let h₄ : a₂ + n + padding form n ≤ length s = rw zl at (fits s (a₂ + n) z rest e₃ h₃) in
-    let k : count_at form s at ≡ n = count-says s at n (c ++ (z ++ rest)) h some form small e₁ in
+    let k : count_at form s at ≡ n = count_says s at n (c ++ (z ++ rest)) h some form small e₁ in
     let p : part s (a₂ + n) (padding form n) ≡ z = rw zl at (names s (a₂ + n) z rest e₃) in
     record {
       is = rw (k, le-ltb n 1 some, le-ltb (full form) n small, le-ltb (length s) (a₂ + n + padding form n) h₄, p, zeros_all (padding form n)) refl;
@@ -249,5 +249,5 @@ first_chunk form s m rest z e =
     let e₁ : drop 19 s ≡ head form (length c) ++ r =
     p.chunks ∙ (ap (λ (l : List ℕ). l ++ (3 ∷ rest)) (chunks_first form d some)
     ∙ (append_assoc (chunk_of form c) x' (3 ∷ rest) ∙ append_assoc (head form (length c)) (c ++ replicate (padding form (length c)) 0) (x' ++ (3 ∷ rest)))) in
-    let k : count_at form s 19 ≡ length c = count-says s 19 (length c) r p.inside ns form (omega arith) e₁ in
+    let k : count_at form s 19 ≡ length c = count_says s 19 (length c) r p.inside ns form (omega arith) e₁ in
     omega arith

@@ -43,15 +43,15 @@ module _ (form : Form) (s : List ℕ) where
   body_end zero before at h e = absurd (omega (arith, inside_of s at 2 e))
   body_end (suc fuel) before at h e = rw (eq-eqb (get_or s at 0) 3 e) refl
 
-  body-short : (fuel before at : ℕ) → (get_or s at 0 ≡ 3 → ⊥) → before < full form → body_at form s fuel before at ≡ refused 19
+  body_short : (fuel before at : ℕ) → (get_or s at 0 ≡ 3 → ⊥) → before < full form → body_at form s fuel before at ≡ refused 19
   unfolding body_at
-  body-short zero before at e h = refl
-  body-short (suc fuel) before at e h = rw (ne_eqb (get_or s at 0) 3 e, lt-ltb before (full form) h) refl
+  body_short zero before at e h = refl
+  body_short (suc fuel) before at e h = rw (ne_eqb (get_or s at 0) 3 e, lt-ltb before (full form) h) refl
 
-  body-bad : (fuel before at : ℕ) → (get_or s at 0 ≡ 3 → ⊥) → full form ≤ before → chunk_at form s at ≡ refused 19 → body_at form s fuel before at ≡ refused 19
+  body_bad : (fuel before at : ℕ) → (get_or s at 0 ≡ 3 → ⊥) → full form ≤ before → chunk_at form s at ≡ refused 19 → body_at form s fuel before at ≡ refused 19
   unfolding body_at
-  body-bad zero before at e h c = refl
-  body-bad (suc fuel) before at e h c = rw (ne_eqb (get_or s at 0) 3 e, le-ltb before (full form) h, c) refl
+  body_bad zero before at e h c = refl
+  body_bad (suc fuel) before at e h c = rw (ne_eqb (get_or s at 0) 3 e, le-ltb before (full form) h, c) refl
 
   body_more : (fuel before at n : ℕ) → (get_or s at 0 ≡ 3 → ⊥) → full form ≤ before → chunk_at form s at ≡ given n
       → body_at form s (suc fuel) before at ≡ onward (body_at form s fuel n (end_of_chunk form at n)) (λ b. given (record { bytes = part s (at + head_size form) n ++ b.bytes; next = b.next }))
@@ -66,8 +66,8 @@ module _ (form : Form) (s : List ℕ) where
     pub short : len ≤ at
     pub whole : body_extent (body_at form s (length s) (full form) from) ≡ plus len (body_extent (body_at form s fuel before at))
 
-  pub body-start : (from : ℕ) → from ≤ length s → BodyWalk from (full form) 0 from
-  body-start from h =
+  pub body_start : (from : ℕ) → from ≤ length s → BodyWalk from (full form) 0 from
+  body_start from h =
       record { fuel = length s; inside = h; fuelled = omega arith; short = omega arith; whole = plus_none (body_extent (body_at form s (length s) (full form) from)) }
 
   -- A chunk that was read stands there.
@@ -83,14 +83,14 @@ module _ (form : Form) (s : List ℕ) where
         sym (w.whole ∙ (ap (λ (a : Answer Body). plus len (body_extent a)) (body_end w.fuel before at w.fuelled e)
         ∙ ap (λ (n : ℕ). given (record { len = n; next = at + 1 })) (add-zero len)))
 
-    pub body-stops : (get_or s at 0 ≡ 3 → ⊥) → before < full form → refused 19 ≡ body_extent (body_at form s (length s) (full form) from)
-    body-stops e h = sym (w.whole ∙ ap (λ (a : Answer Body). plus len (body_extent a)) (body-short w.fuel before at e h))
+    pub body_stops : (get_or s at 0 ≡ 3 → ⊥) → before < full form → refused 19 ≡ body_extent (body_at form s (length s) (full form) from)
+    body_stops e h = sym (w.whole ∙ ap (λ (a : Answer Body). plus len (body_extent a)) (body_short w.fuel before at e h))
 
     pub body_refused : (get_or s at 0 ≡ 3 → ⊥) → full form ≤ before → refused 19 ≡ chunk_at form s at → refused 19 ≡ body_extent (body_at form s (length s) (full form) from)
-    body_refused e h c = sym (w.whole ∙ ap (λ (a : Answer Body). plus len (body_extent a)) (body-bad w.fuel before at e h (sym c)))
+    body_refused e h c = sym (w.whole ∙ ap (λ (a : Answer Body). plus len (body_extent a)) (body_bad w.fuel before at e h (sym c)))
 
-    pub body-turn : (n : ℕ) → (get_or s at 0 ≡ 3 → ⊥) → full form ≤ before → given n ≡ chunk_at form s at → BodyWalk from n (len + n) (end_of_chunk form at n)
-    body-turn n e h c =
+    pub body_turn : (n : ℕ) → (get_or s at 0 ≡ 3 → ⊥) → full form ≤ before → given n ≡ chunk_at form s at → BodyWalk from n (len + n) (end_of_chunk form at n)
+    body_turn n e h c =
         let k : Chunk form s at n = chunk_of at n (sym c) in
         let f : w.fuel ≡ suc (w.fuel - 1) = one_left w.fuel at w.fuelled (omega (arith, k.inside, k.some)) in
         let x : List ℕ = part s (at + head_size form) n in
@@ -120,18 +120,18 @@ body_sized peer (given b) = sized_extent_lem peer b
 body_sized peer (refused k) = refl
 
 module _ (form : Form) (s : List ℕ) (at : ℕ) where
-  pub message-none : (get_or s at 0 ≡ 1 → ⊥) → refused 19 ≡ extent (message_at form s at)
+  pub message_none : (get_or s at 0 ≡ 1 → ⊥) → refused 19 ≡ extent (message_at form s at)
   unfolding message_at
-  message-none e = rw (ne_eqb (get_or s at 0) 1 e) refl
+  message_none e = rw (ne_eqb (get_or s at 0) 1 e) refl
 
-  pub message-cut : get_or s at 0 ≡ 1 → length s < at + 19 → refused 19 ≡ extent (message_at form s at)
+  pub message_cut : get_or s at 0 ≡ 1 → length s < at + 19 → refused 19 ≡ extent (message_at form s at)
   unfolding message_at
-  message-cut e h = rw (eq-eqb (get_or s at 0) 1 e, lt-ltb (length s) (at + 19) h) refl
+  message_cut e h = rw (eq-eqb (get_or s at 0) 1 e, lt-ltb (length s) (at + 19) h) refl
 
-  pub message-body : get_or s at 0 ≡ 1 → at + 19 ≤ length s → (a : Answer Extent) → a ≡ body_extent (body_at form s (length s) (full form) (at + 19))
+  pub message_body : get_or s at 0 ≡ 1 → at + 19 ≤ length s → (a : Answer Extent) → a ≡ body_extent (body_at form s (length s) (full form) (at + 19))
       → onward a sized_extent ≡ extent (message_at form s at)
   unfolding message_at
-  message-body e h a q =
+  message_body e h a q =
       rw (eq-eqb (get_or s at 0) 1 e, le-ltb (length s) (at + 19) h)
       (ap (λ (x : Answer Extent). onward x sized_extent) q ∙ sym (body_sized (part s (at + 1) 18) (body_at form s (length s) (full form) (at + 19))))
 
@@ -161,7 +161,7 @@ module _ (form : Form) (s : List ℕ) where
     pub found : Found
     pub is : message_at form s at ≡ given found
     pub length_is : length found.message.datagram ≡ len
-    pub next-is : found.next ≡ next
+    pub next_is : found.next ≡ next
     pub stands : Message form s at found
 
   same_extent : (a b : Extent) → ◌≡◌ {A = Answer Extent} (given a) (given b) → a ≡ b
@@ -170,7 +170,7 @@ module _ (form : Form) (s : List ℕ) where
   whole_by : (at len next : ℕ) (a : Answer Found) → message_at form s at ≡ a → given (record { len = len; next = next }) ≡ extent a → Whole at len next
   whole_by at len next (given m) q e =
       let k = same_extent (record { len = len; next = next }) (record { len = length m.message.datagram; next = m.next }) e in
-      record { found = m; is = q; length_is = sym (ap (λ (x : Extent). x.len) k); next-is = sym (ap (λ (x : Extent). x.next) k); stands = on_given (Message form s at) (message_at form s at) m (message_sound form s at) q }
+      record { found = m; is = q; length_is = sym (ap (λ (x : Extent). x.len) k); next_is = sym (ap (λ (x : Extent). x.next) k); stands = on_given (Message form s at) (message_at form s at) m (message_sound form s at) q }
   whole_by at len next (refused k) q e = not_refused e
 
   pub whole_of : (at len next : ℕ) → given (record { len = len; next = next }) ≡ extent (message_at form s at) → Whole at len next
@@ -181,8 +181,8 @@ module _ (form : Form) (s : List ℕ) where
   bad_by at k (given m) q e = not_refused (sym e)
   bad_by at k (refused j) q e = cc
 
-  pub bad-of : (at k : ℕ) → refused k ≡ extent (message_at form s at) → message_at form s at ≡ refused k
-  bad-of at k e = bad_by at k (message_at form s at) refl e
+  pub bad_of : (at k : ℕ) → refused k ≡ extent (message_at form s at) → message_at form s at ≡ refused k
+  bad_of at k e = bad_by at k (message_at form s at) refl e
 
   -- Before a message: the whole answer is the messages so far put before those from here.
   pub record StreamWalk (from count bytes at : ℕ) : Type 0 where
@@ -190,21 +190,21 @@ module _ (form : Form) (s : List ℕ) where
     pub short : bytes ≤ at
     pub whole : tally (messages_from form s from) ≡ plus_tally count bytes (tally (messages_from form s at))
 
-  pub stream-start : (from : ℕ) → StreamWalk from 0 0 from
-  stream-start from = record { few = omega arith; short = omega arith; whole = tally_none (tally (messages_from form s from)) }
+  pub stream_start : (from : ℕ) → StreamWalk from 0 0 from
+  stream_start from = record { few = omega arith; short = omega arith; whole = tally_none (tally (messages_from form s from)) }
 
   module _ (from count bytes at : ℕ) (w : StreamWalk from count bytes at) where
-    pub stream-ends : length s ≤ at → given (record { count = count; bytes = bytes }) ≡ tally (messages_from form s from)
-    stream-ends h =
+    pub stream_ends : length s ≤ at → given (record { count = count; bytes = bytes }) ≡ tally (messages_from form s from)
+    stream_ends h =
         sym (w.whole ∙ (ap (λ (a : Answer (List Frozen)). plus_tally count bytes (tally a)) (from_end form s at h)
         ∙ (ap (λ (n : ℕ). given (record { count = n; bytes = bytes + 0 })) (add-zero count) ∙ ap (λ (n : ℕ). given (record { count = count; bytes = n })) (add-zero bytes))))
 
-    pub stream-refused : (k : ℕ) → at < length s → refused k ≡ extent (message_at form s at) → refused k ≡ tally (messages_from form s from)
-    stream-refused k h e =
-        sym (w.whole ∙ ap (λ (a : Answer (List Frozen)). plus_tally count bytes (tally a)) (from_bad form s at k h (bad-of at k e)))
+    pub stream_refused : (k : ℕ) → at < length s → refused k ≡ extent (message_at form s at) → refused k ≡ tally (messages_from form s from)
+    stream_refused k h e =
+        sym (w.whole ∙ ap (λ (a : Answer (List Frozen)). plus_tally count bytes (tally a)) (from_bad form s at k h (bad_of at k e)))
 
-    pub stream-turn : (len next : ℕ) → at < length s → given (record { len = len; next = next }) ≡ extent (message_at form s at) → StreamWalk from (count + 1) (bytes + len) next
-    stream-turn len next h e =
+    pub stream_turn : (len next : ℕ) → at < length s → given (record { len = len; next = next }) ≡ extent (message_at form s at) → StreamWalk from (count + 1) (bytes + len) next
+    stream_turn len next h e =
         let o : Whole at len next = whole_of at len next e in
         let m : Found = o.found in
         let room : at + len < next = omega (arith, o.stands.room, o.length_is, o.next-is) in

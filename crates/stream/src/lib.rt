@@ -1,5 +1,6 @@
 // Freeze streams in two forms, judged message by message. A message is read where it stands, with no list of what was found.
 #![tactic(auto)]
+
 ghost use Rattle.std.specs.Prelude.{◌≡◌, ◌+◌, ◌≤◌, min, length};
 ghost use Rattle.ground.specs.Part.{part};
 ghost use Rattle.option_reading.specs.Answers.{ByteAt};

@@ -23,11 +23,11 @@ use Rattle.converting.specs.Converting.{other_form, converted}
 use Rattle.stream_guarantees.specs.StreamOf.{IsStreamOf}
 use Rattle.stream_guarantees.specs.Conversions.{ConvertsExactly, Converting, ThereAndBack, OneForm, each_in, EachSized, SomeIn, MixedForms}
 use Rattle.transfer_guarantees.proofs.Frames.{wrote, converted as came, stood}
-use Rattle.stream_guarantees.proofs.Streams.{is-stream, of-stream, not_thawed, no_stream}
+use Rattle.stream_guarantees.proofs.Streams.{is_stream, of_stream, not_thawed, no_stream}
 
 -- The stream in the other form, of the list that the stream has.
 to_other : (from : Form) (s : List ℕ) (l : List Frozen) → IsStreamOf from s l → converted from s ≡ given (stream_of (other_form from) l)
-to_other from s l i = ap (λ (a : Answer (List Frozen)). onward a (λ x. given (stream_of (other_form from) x))) (of-stream from s l i)
+to_other from s l i = ap (λ (a : Answer (List Frozen)). onward a (λ x. given (stream_of (other_form from) x))) (of_stream from s l i)
 
 module _ (from : Form) (s old : List ℕ) (r : Written) (new : List ℕ) (promise : Converts (converted from s) old r new) where
   -- What was written is the stream of such a list.
@@ -41,10 +41,10 @@ module _ (from : Form) (s old : List ℕ) (r : Written) (new : List ℕ) (promis
       let c = came (converted from s) old r new promise n e in
       let o = onward_given (thawed_strictly from s) (λ l. given (stream_of (other_form from) l)) c.bytes c.is in
       let b : stream_of (other_form from) o.0 ≡ c.bytes = same_given o.2 in
-      record { messages = o.0; is = is-stream from s o.0 o.1; fits = omega (arith, ap length b, c.fits) }
+      record { messages = o.0; is = is_stream from s o.0 o.1; fits = omega (arith, ap length b, c.fits) }
 
-  converts-exactly : ConvertsExactly from s old r new
-  converts-exactly =
+  converts_exactly : ConvertsExactly from s old r new
+  converts_exactly =
       record {
         writes = λ l i fits. wrote (converted from s) old r new promise (stream_of (other_form from) l) (to_other from s l i) fits;
         exactly = (
@@ -54,7 +54,7 @@ module _ (from : Form) (s old : List ℕ) (r : Written) (new : List ℕ) (promis
       }
 
 pub converting_exactly : Converting
-converting_exactly from s old r new p = converts-exactly from s old r new p
+converting_exactly from s old r new p = converts_exactly from s old r new p
 
 back_again : (form : Form) → other_form (other_form form) ≡ form
 back_again Old = refl

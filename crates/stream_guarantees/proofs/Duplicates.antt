@@ -24,9 +24,9 @@ use Rattle.hearing.specs.Told.{Holds, NoPlace, Why}
 use Rattle.hearing.specs.declared.Verdict.TheVariants.{New, Duplicate, Passed}
 use Rattle.hearing.specs.declared.Heard.{Heard}
 use Rattle.hearing.specs.declared.Heard.TheVariants.{Is, Refused}
-use Rattle.hearing.proofs.Answers.{sixty-four, is-back, is-short}
-use Rattle.hearing.proofs.Left.{taken, places-left, lowest_free, none_below, behind-left, unchanged}
-use Rattle.hearing.proofs.Telling.{accepted, told-roomy, told-why, why-told}
+use Rattle.hearing.proofs.Answers.{sixty_four, is_back, is_short}
+use Rattle.hearing.proofs.Left.{taken, places_left, lowest_free, none_below, behind_left, unchanged}
+use Rattle.hearing.proofs.Telling.{accepted, told_roomy, told_why, why_told}
 use Rattle.hearing.proofs.Step.{agrees, kept}
 use Rattle.hearing.proofs.Cleared.{cleared_holds}
 use Rattle.hearing.proofs.Alone.{standing, alone}
@@ -36,36 +36,36 @@ use Rattle.guarantees.proofs.Refusals.{kept_by}
 
 module _ (before : ℕ) (news : List Arrival) (m : Arrival) (f : Fits m) (old : List ℕ) (k : Holds before old news) where
   -- Why a call is refused, by the history; and that it is refused for each reason.
-  heard-why : (r : Heard) → heard_of r ≡ hearing before old m → (e : Refusal) → r ≡ Refused e → Why 1 before news m (number_of e)
-  heard-why r p e i =
-      told-why 1 before news m (number_of e)
-      (told-roomy 1 before news m (omega arith) ∙ (sym (agrees before old news m k) ∙ (sym p ∙ ap heard_of i)))
+  heard_why : (r : Heard) → heard_of r ≡ hearing before old m → (e : Refusal) → r ≡ Refused e → Why 1 before news m (number_of e)
+  heard_why r p e i =
+      told_why 1 before news m (number_of e)
+      (told_roomy 1 before news m (omega arith) ∙ (sym (agrees before old news m k) ∙ (sym p ∙ ap heard_of i)))
 
-  why-heard : (r : Heard) → heard_of r ≡ hearing before old m → (e : Refusal) → Why 1 before news m (number_of e) → r ≡ Refused e
-  why-heard r p e w =
+  why_heard : (r : Heard) → heard_of r ≡ hearing before old m → (e : Refusal) → Why 1 before news m (number_of e) → r ≡ Refused e
+  why_heard r p e w =
       one_heard r (Refused e)
-      (p ∙ (agrees before old news m k ∙ (sym (told-roomy 1 before news m (omega arith)) ∙ why-told 1 before news m (number_of e) w)))
+      (p ∙ (agrees before old news m k ∙ (sym (told_roomy 1 before news m (omega arith)) ∙ why_told 1 before news m (number_of e) w)))
 
   back_is : (r : Heard) → heard_of r ≡ hearing before old m → r ≡ Refused ClockBack → m.time < before
-  back_is r p i = ⊎_elim (λ w. w.1) (λ w. absurd (omega (arith, w.0))) (heard-why r p ClockBack i)
+  back_is r p i = ⊎_elim (λ w. w.1) (λ w. absurd (omega (arith, w.0))) (heard_why r p ClockBack i)
 
   full_is : (r : Heard) → heard_of r ≡ hearing before old m → r ≡ Refused NoRoom → (before ≤ m.time) × NoPlace news m
   full_is r p i =
-      ⊎_elim (λ w. absurd (omega (arith, w.0))) (λ w. (w.1, ⊎_elim (λ z. absurd (omega arith)) (λ n. n) w.2)) (heard-why r p NoRoom i)
+      ⊎_elim (λ w. absurd (omega (arith, w.0))) (λ w. (w.1, ⊎_elim (λ z. absurd (omega arith)) (λ n. n) w.2)) (heard_why r p NoRoom i)
 
-  only-is : (r : Heard) → heard_of r ≡ hearing before old m → (e : Refusal) → r ≡ Refused e → (e ≡ ClockBack) ⊎ (e ≡ NoRoom)
-  only-is r p e i = ⊎_elim (λ w. inl (distinct e ClockBack w.0)) (λ w. inr (distinct e NoRoom w.0)) (heard-why r p e i)
+  only_is : (r : Heard) → heard_of r ≡ hearing before old m → (e : Refusal) → r ≡ Refused e → (e ≡ ClockBack) ⊎ (e ≡ NoRoom)
+  only_is r p e i = ⊎_elim (λ w. inl (distinct e ClockBack w.0)) (λ w. inr (distinct e NoRoom w.0)) (heard_why r p e i)
 
   -- A new one takes the lowest free place.
-  takes-lowest : (left : List ℕ) → hearing before old m ≡ given new → left ≡ leaving (given new) m old → Takes m old left
-  takes-lowest left e t =
+  takes_lowest : (left : List ℕ) → hearing before old m ≡ given new → left ≡ leaving (given new) m old → Takes m old left
+  takes_lowest left e t =
       let room = (taken before old m e).room in
       record {
         place = lowest m.time (places old);
-        within = omega (arith, room, sixty-four before old m);
+        within = omega (arith, room, sixty_four before old m);
         was_free = lowest_free m.time (places old) room;
         none_below = none_below m.time (places old);
-        stands = rw t (places-left before old m f e);
+        stands = rw t (places_left before old m f e);
       }
 
   -- Where nothing else is known, an answer that isn't new changes nothing.
@@ -75,12 +75,12 @@ module _ (before : ℕ) (news : List Arrival) (m : Arrival) (f : Fits m) (old : 
   same_left (Is Passed) n = refl
   same_left (Refused e) n = refl
 
-  behind-by : (a : Answer Verdict) → hearing before old m ≡ a → drop 1600 (leaving a m old) ≡ drop 1600 old
-  behind-by (given v) e = behind-left before old m f v e
-  behind-by (refused n) e = refl
+  behind_by : (a : Answer Verdict) → hearing before old m ≡ a → drop 1600 (leaving a m old) ≡ drop 1600 old
+  behind_by (given v) e = behind_left before old m f v e
+  behind_by (refused n) e = refl
 
-  by-history : (r : Heard) (left : List ℕ) → Hears before m old r left → ByHistory before news m old r left
-  by-history r left h =
+  by_history : (r : Heard) (left : List ℕ) → Hears before m old r left → ByHistory before news m old r left
+  by_history r left h =
       let left_by : left ≡ leaving (heard_of r) m old = h.table ∙ ap (λ (a : Answer Verdict). leaving a m old) (sym h.answer) in
       record {
         is =
@@ -90,21 +90,21 @@ module _ (before : ℕ) (news : List Arrival) (m : Arrival) (f : Fits m) (old : 
             ((accepted before news m (verdict_of v) (sym (agrees before old news m k) ∙ e)).is, rw t (kept before old news m k f (verdict_of v) e));
         takes =
             λ i.
-            takes-lowest left (sym h.answer ∙ ap heard_of i) (left_by ∙ ap (λ (x : Heard). leaving (heard_of x) m old) i);
+            takes_lowest left (sym h.answer ∙ ap heard_of i) (left_by ∙ ap (λ (x : Heard). leaving (heard_of x) m old) i);
         stays = λ n. left_by ∙ same_left r n;
-        behind = ap (drop 1600) h.table ∙ behind-by (hearing before old m) refl;
-        back = (back_is r h.answer, λ t. why-heard r h.answer ClockBack (inl (refl, t)));
-        full = (full_is r h.answer, λ n. why-heard r h.answer NoRoom (inr (refl, n.0, inr n.1)));
-        only = only-is r h.answer;
+        behind = ap (drop 1600) h.table ∙ behind_by (hearing before old m) refl;
+        back = (back_is r h.answer, λ t. why_heard r h.answer ClockBack (inl (refl, t)));
+        full = (full_is r h.answer, λ n. why_heard r h.answer NoRoom (inr (refl, n.0, inr n.1)));
+        only = only_is r h.answer;
       }
 
 pub hears_history : HearsHistory
-hears_history before news m f old k r left h = by-history before news m f old k r left h
+hears_history before news m f old k r left h = by_history before news m f old k r left h
 
 pub short_table : ShortTable
 short_table before m old r left h l = (
-  λ t. one_heard r (Refused ClockBack) (h.answer ∙ sym (is-back before old m t).answer),
-  λ t. one_heard r (Refused NoRoom) (h.answer ∙ sym (is-short before old m t l).answer),
+  λ t. one_heard r (Refused ClockBack) (h.answer ∙ sym (is_back before old m t).answer),
+  λ t. one_heard r (Refused NoRoom) (h.answer ∙ sym (is_short before old m t l).answer),
 )
 
 -- Clearing is refused exactly where the table is too short.

@@ -28,7 +28,7 @@ use Rattle.hearing.specs.Hearing.{Fits, hearing, leaving, verdict_of, heard_of, 
 use Rattle.hearing.specs.Calls.{letter, calling, Calls, further, calls_from, AllFit, Ran}
 use Rattle.hearing.specs.Told.{Holds, Why, Ended}
 use Rattle.hearing.specs.declared.Heard.{Heard}
-use Rattle.hearing.proofs.Telling.{told-why, why-told}
+use Rattle.hearing.proofs.Telling.{told_why, why_told}
 use Rattle.hearing.proofs.Step.{kept}
 use Rattle.hearing.proofs.Turns.{with_room, listed, agrees_in, whole, ended, followed, in_two, in_order}
 use Rattle.hearing.proofs.Cleared.{cleared_holds}
@@ -39,9 +39,9 @@ use Rattle.tracing.specs.Arrivals.{arrival_of, arrivals_of}
 use Rattle.tracing.specs.declared.Judged.{Judged}
 use Rattle.tracing.specs.declared.Judged.TheVariants.{Messages, Refused as NotJudged}
 use Rattle.tracing.proofs.Exact.{exact, one_form, trace_append, stream_no_trace, trace_no_stream}
-use Rattle.tracing.proofs.Counted.{strict_list, traced-of, Counted, counted, uncounted}
+use Rattle.tracing.proofs.Counted.{strict_list, traced_of, Counted, counted, uncounted}
 use Rattle.tracing.proofs.Arrivals.{header_read, id_small}
-use Rattle.tracing.proofs.Bytes.{AllBytes, traced-bytes}
+use Rattle.tracing.proofs.Bytes.{AllBytes, traced_bytes}
 use Rattle.tracing.proofs.Distinct.{one_judged, one_timed, one_arrived}
 use Rattle.replaying.specs.Replaying.{begins, cleared, replayed_from, replaying, Replays}
 use Rattle.replaying.specs.declared.Replayed.{Replayed}
@@ -53,7 +53,7 @@ use Rattle.stream_guarantees.proofs.Duplicates.{done_size, behind_zeros}
 -- What is judged is the trace of such a list, and the other way round.
 is_trace : (s : List ℕ) → Bytes s → (l : List Timed) → traced_strictly s ≡ given l → IsTraceOf (form_of s) s l
 is_trace s b l e =
-    let h = exact.sound s l b (traced-of s l e) in
+    let h = exact.sound s l b (traced_of s l e) in
     let o = onward_given (traced s) strictly l e in
     let k = strict_list o.0 l o.2 in
     record { timed = h.1; accepted = all_accepted (messages_of l) (rw k.same at k.all); bytes = h.0 }
@@ -128,7 +128,7 @@ none_turn : (room before : ℕ) (s : List ℕ) (news : List Arrival) (m : Arriva
     → ((t : List ℕ) → Holds m.time t (fresh_after news m) → (calls_from (room - 1) m.time t ms).outcome ≡ given tt → NoneRefused (room - 1) m.time (fresh_after news m) ms)
     → (a : Answer Verdict) → calling room before s m ≡ a → (further a s (calls_from (room - 1) m.time (leaving a m s) ms)).outcome ≡ given tt → NoneRefused room before news (m ∷ ms)
 none_turn room before s news m ms h f next (given v) c e = (
-  λ k w. not_refused (sym c ∙ (agrees_in room before s news m h ∙ why-told room before news m k w)),
+  λ k w. not_refused (sym c ∙ (agrees_in room before s news m h ∙ why_told room before news m k w)),
   next (leaving (given v) m s) (kept before s news m h f v (listed room before s m v c).heard) e,
 )
 none_turn room before s news m ms h f next (refused k) c e = not_refused (sym e)
@@ -143,7 +143,7 @@ done_turn : (room before : ℕ) (s : List ℕ) (news : List Arrival) (m : Arriva
     → ((t : List ℕ) → Holds m.time t (fresh_after news m) → (calls_from (room - 1) m.time t ms).outcome ≡ given tt)
     → (a : Answer Verdict) → calling room before s m ≡ a → (further a s (calls_from (room - 1) m.time (leaving a m s) ms)).outcome ≡ given tt
 done_turn room before s news m ms h f x next (given v) c = next (leaving (given v) m s) (kept before s news m h f v (listed room before s m v c).heard)
-done_turn room before s news m ms h f x next (refused k) c = absurd (x k (told-why room before news m k (sym (agrees_in room before s news m h) ∙ c)))
+done_turn room before s news m ms h f x next (refused k) c = absurd (x k (told_why room before news m k (sym (agrees_in room before s news m h) ∙ c)))
 
 all_done : (room before : ℕ) (s : List ℕ) (news ms : List Arrival) → Holds before s news → AllFit ms → NoneRefused room before news ms → (calls_from room before s ms).outcome ≡ given tt
 unfolding calls_from
@@ -255,9 +255,9 @@ module _ (s table listing : List ℕ) (r : Replayed) (left listed : List ℕ) (p
   unfolding replaying
   unbegun k e = subst (λ (a : Answer (List Timed)). Ran (replayed_from a (length listing) table) listing (outcome r.outcome) r.count left listed) e promise
 
-  as-judged : (j : Judged) → Judges s j → (e : Refusal) → j ≡ NotJudged e → r.outcome ≡ Refused e
+  as_judged : (j : Judged) → Judges s j → (e : Refusal) → j ≡ NotJudged e → r.outcome ≡ Refused e
   unfolding begins
-  as-judged j p e i =
+  as_judged j p e i =
       let t : traced_strictly s ≡ refused (number_of e) = uncounted s (number_of e) (sym (ap judged i) ∙ p) in
       one_outcome r.outcome (Refused e) (unbegun (number_of e) (rw t refl)).outcome
 
@@ -268,23 +268,23 @@ module _ (s table listing : List ℕ) (r : Replayed) (left listed : List ℕ) (p
       one_outcome r.outcome (Refused NoRoom) (unbegun 12 (rw (c.are, lt-ltb (length table) table_size h) refl)).outcome
 
   -- It is refused, whatever for.
-  some-refusal : (o : Outcome) (k : ℕ) → outcome o ≡ refused k → (e : Refusal) × (o ≡ Refused e)
-  some-refusal Done k e = not_refused e
-  some-refusal (Refused x) k e = (x, refl)
+  some_refusal : (o : Outcome) (k : ℕ) → outcome o ≡ refused k → (e : Refusal) × (o ≡ Refused e)
+  some_refusal Done k e = not_refused e
+  some_refusal (Refused x) k e = (x, refl)
 
-  begins-so : Bytes s → (l : List Timed) → begins s (length table) ≡ given l → Begins s table l
+  begins_so : Bytes s → (l : List Timed) → begins s (length table) ≡ given l → Begins s table l
   unfolding begins
-  begins-so b l e =
+  begins_so b l e =
       let o = onward_given (traced_strictly s) (λ v. onward (clearing (length table)) (λ _. given v)) l e in
       let q = onward_given (clearing (length table)) (λ _. given o.0) l o.2 in
       record { form = form_of s; trace = is_trace s b l (o.1 ∙ q.2); size = done_size (length table) q.1 }
 
-  never-begun : Bytes s → ((l : List Timed) → Begins s table l → ⊥) → ((e : Refusal) × (r.outcome ≡ Refused e)) × (r.count ≡ 0) × (left ≡ table) × (listed ≡ listing)
-  never-begun b none = by (begins s (length table)) refl
+  never_begun : Bytes s → ((l : List Timed) → Begins s table l → ⊥) → ((e : Refusal) × (r.outcome ≡ Refused e)) × (r.count ≡ 0) × (left ≡ table) × (listed ≡ listing)
+  never_begun b none = by (begins s (length table)) refl
     where
       by : (a : Answer (List Timed)) → begins s (length table) ≡ a → ((e : Refusal) × (r.outcome ≡ Refused e)) × (r.count ≡ 0) × (left ≡ table) × (listed ≡ listing)
-      by (given l) e = absurd (none l (begins-so b l e))
-      by (refused k) e = let u = unbegun k e in (some-refusal r.outcome k u.outcome, u.count, u.table, u.listing)
+      by (given l) e = absurd (none l (begins_so b l e))
+      by (refused k) e = let u = unbegun k e in (some_refusal r.outcome k u.outcome, u.count, u.table, u.listing)
 
 -- A replay that begins: its calls, over the cleared table.
 module _ (s : List ℕ) (small : Bytes s) (table listing : List ℕ) (r : Replayed) (left listed : List ℕ) (promise : Replays s table listing r left listed) where
@@ -292,28 +292,28 @@ module _ (s : List ℕ) (small : Bytes s) (table listing : List ℕ) (r : Replay
   calls-of l = calls_from (length listing) 0 (cleared table) (arrivals_of l)
 
   module _ (l : List Timed) (b : Begins s table l) where
-    traced-so : traced_strictly s ≡ given l
-    traced-so = of_trace b.form s l b.trace
+    traced_so : traced_strictly s ≡ given l
+    traced_so = of_trace b.form s l b.trace
 
-    begins-with : begins s (length table) ≡ given l
+    begins_with : begins s (length table) ≡ given l
     unfolding begins
-    begins-with = rw (traced-so, le-ltb (length table) table_size b.size) refl
+    begins_with = rw (traced_so, le-ltb (length table) table_size b.size) refl
 
     ran : Ran (calls-of l) listing (outcome r.outcome) r.count left listed
     unfolding replaying
-    ran = subst (λ (a : Answer (List Timed)). Ran (replayed_from a (length listing) table) listing (outcome r.outcome) r.count left listed) begins-with promise
+    ran = subst (λ (a : Answer (List Timed)). Ran (replayed_from a (length listing) table) listing (outcome r.outcome) r.count left listed) begins_with promise
 
-    holds-none : Holds 0 (cleared table) []
-    holds-none = none_held table b.size
+    holds_none : Holds 0 (cleared table) []
+    holds_none = none_held table b.size
 
     fit : AllFit (arrivals_of l)
-    fit = all_fit l b.trace.timed (on_given AllBytes (traced s) l (traced-bytes (form_of s) s small (length s) 0) (traced-of s l traced-so))
+    fit = all_fit l b.trace.timed (on_given AllBytes (traced s) l (traced_bytes (form_of s) s small (length s) 0) (traced_of s l traced_so))
 
-    is-done : (r.outcome ≡ Done) → (calls-of l).outcome ≡ given tt
-    is-done e = sym ran.outcome ∙ ap outcome e
+    is_done : (r.outcome ≡ Done) → (calls-of l).outcome ≡ given tt
+    is_done e = sym ran.outcome ∙ ap outcome e
 
-    is-refused : (e : Refusal) → r.outcome ≡ Refused e → (calls-of l).outcome ≡ refused (number_of e)
-    is-refused e i = sym ran.outcome ∙ ap outcome i
+    is_refused : (e : Refusal) → r.outcome ≡ Refused e → (calls-of l).outcome ≡ refused (number_of e)
+    is_refused e i = sym ran.outcome ∙ ap outcome i
 
   -- What messages leave that aren't refused.
   leaves : (front : List Timed) → table_size ≤ length table → AllFit (arrivals_of front) → (calls-of front).outcome ≡ given tt
@@ -338,37 +338,37 @@ module _ (s : List ℕ) (small : Bytes s) (table listing : List ℕ) (r : Replay
     front_fits : AllFit (arrivals_of x.front)
     front_fits = fit_front x.front (x.at ∷ x.rest) (subst (λ (v : List Timed). AllFit (arrivals_of v)) x.split (fit l b))
 
-    front-done : (calls-of x.front).outcome ≡ given tt
-    front-done = all_done (length listing) 0 (cleared table) [] (arrivals_of x.front) (holds-none l b) front_fits x.none
+    front_done : (calls-of x.front).outcome ≡ given tt
+    front_done = all_done (length listing) 0 (cleared table) [] (arrivals_of x.front) (holds_none l b) front_fits x.none
 
     stopped : calls-of l ≡ record { listing = (calls-of x.front).listing; table = (calls-of x.front).table; outcome = refused (number_of e) }
     stopped =
         let d : Calls = calls-of x.front in
         let f : List Arrival = arrivals_of x.front in
         let n : length f ≡ length x.front = length-map x.front arrival_of in
-        let w = whole (length listing) 0 (cleared table) [] f (holds-none l b) front_fits front-done in
+        let w = whole (length listing) 0 (cleared table) [] f (holds_none l b) front_fits front_done in
         let c : calling (length listing - length f) (last_time 0 f) d.table (arrival_of x.at) ≡ refused (number_of e) =
         agrees_in (length listing - length f) (last_time 0 f) d.table (fresh f) (arrival_of x.at) w.holds
-        ∙ why-told (length listing - length f) (last_time 0 f) (fresh f) (arrival_of x.at) (number_of e) (rw n x.why) in
+        ∙ why_told (length listing - length f) (last_time 0 f) (fresh f) (arrival_of x.at) (number_of e) (rw n x.why) in
         ap calls-of x.split
         ∙ (ap (calls_from (length listing) 0 (cleared table)) (map-append arrival_of x.front (x.at ∷ x.rest))
-        ∙ (in_two (length listing) 0 (cleared table) f (arrivals_of (x.at ∷ x.rest)) front-done
+        ∙ (in_two (length listing) 0 (cleared table) f (arrivals_of (x.at ∷ x.rest)) front_done
         ∙ (ap (followed d) (refused_first (length listing - length f) (last_time 0 f) d.table (arrival_of x.at) (arrivals_of x.rest) (number_of e) c)
         ∙ ap (λ (v : List ℕ). record { listing = v; table = d.table; outcome = refused (number_of e) }) (append-nil d.listing))))
 
-    stops-there : r.outcome ≡ Refused e
-    stops-there = one_outcome r.outcome (Refused e) ((ran l b).outcome ∙ ap (λ (c : Calls). c.outcome) stopped)
+    stops_there : r.outcome ≡ Refused e
+    stops_there = one_outcome r.outcome (Refused e) ((ran l b).outcome ∙ ap (λ (c : Calls). c.outcome) stopped)
 
-    leaves-front : Leaves x.front table listing r.count left listed
-    leaves-front =
+    leaves_front : Leaves x.front table listing r.count left listed
+    leaves_front =
         let q = ran l b in
-        leaves x.front b.size front_fits front-done
+        leaves x.front b.size front_fits front_done
         (q.count ∙ ap (λ (c : Calls). length c.listing) stopped) (q.table ∙ ap (λ (c : Calls). c.table) stopped) (q.listing ∙ ap (λ (c : Calls). sets listing 0 c.listing) stopped)
 
   stops_at : (l : List Timed) (b : Begins s table l) (e : Refusal) → r.outcome ≡ Refused e → Stops (length listing) l e
   stops_at l b e i =
       let y : Ended (length listing) 0 (cleared table) [] (arrivals_of l) (number_of e) (calls-of l) =
-      ended (length listing) 0 (cleared table) [] (arrivals_of l) (number_of e) (holds-none l b) (fit l b) (is-refused l b e i) in
+      ended (length listing) 0 (cleared table) [] (arrivals_of l) (number_of e) (holds_none l b) (fit l b) (is_refused l b e i) in
       let p = split l y.front y.at y.rest y.split in
       let f : AllFit (arrivals_of p.first) = fit_front p.first (p.one ∷ p.others) (subst (λ (v : List Timed). AllFit (arrivals_of v)) p.is (fit l b)) in
       let Refuses : ℕ → List Arrival → Arrival → Type 0 = λ j f a. Why (length listing - j) (last_time 0 f) (fresh f) a (number_of e) in
@@ -378,7 +378,7 @@ module _ (s : List ℕ) (small : Bytes s) (table listing : List ℕ) (r : Replay
         at = p.one;
         rest = p.others;
         split = p.is;
-        none = none_refused (length listing) 0 (cleared table) [] (arrivals_of p.first) (holds-none l b) f (rw p.before y.whole);
+        none = none_refused (length listing) 0 (cleared table) [] (arrivals_of p.first) (holds_none l b) f (rw p.before y.whole);
         why = subst (λ (a : Arrival). Refuses (length p.first) (arrivals_of p.first) a) (sym p.here)
             (subst (λ (f : List Arrival). Refuses (length p.first) f y.at) (sym p.before) (subst (λ (j : ℕ). Refuses j y.front y.at) n y.why));
       }
@@ -411,24 +411,24 @@ module _ (s : List ℕ) (small : Bytes s) (table listing : List ℕ) (r : Replay
             ∙ (put_front listing letters (omega arith) ∙ ap (λ (j : ℕ). letters ++ drop j listing) h)))),
       )
 
-  replays-exactly : ReplaysExactly s table listing r left listed
-  replays-exactly =
+  replays_exactly : ReplaysExactly s table listing r left listed
+  replays_exactly =
       record {
         done = λ l b. (
-          λ e. none_refused (length listing) 0 (cleared table) [] (arrivals_of l) (holds-none l b) (fit l b) (is-done l b e),
-          λ x. one_outcome r.outcome Done ((ran l b).outcome ∙ all_done (length listing) 0 (cleared table) [] (arrivals_of l) (holds-none l b) (fit l b) x),
+          λ e. none_refused (length listing) 0 (cleared table) [] (arrivals_of l) (holds_none l b) (fit l b) (is_done l b e),
+          λ x. one_outcome r.outcome Done ((ran l b).outcome ∙ all_done (length listing) 0 (cleared table) [] (arrivals_of l) (holds_none l b) (fit l b) x),
         );
-        whole = λ l b e. let q = ran l b in leaves l b.size (fit l b) (is-done l b e) q.count q.table q.listing;
-        stops = λ l b e. (stops_at l b e, stops-there l b e);
-        part = leaves-front;
+        whole = λ l b e. let q = ran l b in leaves l b.size (fit l b) (is_done l b e) q.count q.table q.listing;
+        stops = λ l b e. (stops_at l b e, stops_there l b e);
+        part = leaves_front;
         calls = one_by_one;
-        judged = as-judged s table listing r left listed promise;
+        judged = as_judged s table listing r left listed promise;
         short = too_short s table listing r left listed promise;
-        never = never-begun s table listing r left listed promise small;
+        never = never_begun s table listing r left listed promise small;
       }
 
 pub replaying_exactly : Replaying
-replaying_exactly s b table listing r left listed p = replays-exactly s b table listing r left listed p
+replaying_exactly s b table listing r left listed p = replays_exactly s b table listing r left listed p
 
 pub replay_kept : ReplayKept
 replay_kept s table listing r left listed p k e = let u = unbegun s table listing r left listed p k e in (u.count, u.table, u.listing)

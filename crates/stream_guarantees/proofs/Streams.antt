@@ -32,7 +32,7 @@ use Rattle.reading.proofs.Taken.{Taken, taken}
 use Rattle.measuring.specs.declared.Limit.TheVariants.{Given}
 use Rattle.writing.specs.Writing.{writing, bytes_written, Held}
 use Rattle.writing.proofs.Sizes.{message_length}
-use Rattle.writing.proofs.Strict.{Writable, strict-writes, strict-written}
+use Rattle.writing.proofs.Strict.{Writable, strict_writes, strict_written}
 use Rattle.stream.specs.declared.Form.{Form}
 use Rattle.stream.specs.declared.Step.TheVariants.{Message, Refused as NoMessage}
 use Rattle.stream.specs.declared.Judged.TheVariants.{Messages as Judged, Refused as NotJudged}
@@ -45,11 +45,11 @@ use Rattle.stream.proofs.Sizes.{message_size_lem}
 use Rattle.thawing.specs.Thawing.{all_strict, strict, thawed_strictly, Counts, counts_of, strictly_in, Strictly, entries, listed, thawing, Thaws}
 use Rattle.thawing.specs.declared.Strict.{Strict}
 use Rattle.thawing.specs.declared.Strict.TheVariants.{Messages, Refused as NoMessages}
-use Rattle.thawing.proofs.Apart.{standing-judged}
+use Rattle.thawing.proofs.Apart.{standing_judged}
 use Rattle.thawing.proofs.Thawed.{Counted, counted, thawed_of, strict_same}
 use Rattle.thawing.proofs.Listing.{entries_length}
 use Rattle.freezing.specs.Freezing.{frozen_in, strict_datagram, freezing, Freezes}
-use Rattle.freezing.proofs.Full.{never-twelve}
+use Rattle.freezing.proofs.Full.{never_twelve}
 use Rattle.stream_guarantees.specs.StreamOf.{AllAccepted, IsStreamOf}
 use Rattle.stream_guarantees.specs.Streams.{JudgedInPlace, JudgedExactly, OneList, Roomy, Holds, ThawsExactly, Thawing, Appended, Item, AllProper, message_for, InTurn, FrozenThenThawed, ThawedThenFrozen, RoomOfTheStream, NoStream, PeersAt, MessageSizes, Comes, AllCome, StreamAgain, StreamKept, ToldApart, OneThawing, OneFreezing}
 use Rattle.guarantees.specs.Apart.{TellsApart}
@@ -60,7 +60,7 @@ pub judged_in_place : JudgedInPlace
 judged_in_place form before after m r z p =
     let s : List ℕ = before ++ (message_of form m ++ after) in
     let k = parts form s (length before) m after (omega (arith, length-append before (message_of form m ++ after))) z.peer (drop-append_seam before (message_of form m ++ after)) in
-    p ∙ standing-judged form s (length before + 19) (length m.datagram) m.datagram refl (λ _. record { rest = 3 ∷ after; inside = k.inside; bytes = k.chunks })
+    p ∙ standing_judged form s (length before + 19) (length m.datagram) m.datagram refl (λ _. record { rest = 3 ∷ after; inside = k.inside; bytes = k.chunks })
 
 -- A list is strict exactly when each datagram is accepted.
 pub all_strict_lem : (l : List Frozen) → AllAccepted l → all_strict l ≡ given tt
@@ -89,15 +89,15 @@ given_strict l a = rw (all_strict_lem l a) refl
 
 module _ (form : Form) (s : List ℕ) where
   -- What is read strictly is the stream of such a list, and the other way round.
-  pub is-stream : (l : List Frozen) → thawed_strictly form s ≡ given l → IsStreamOf form s l
-  is-stream l e =
+  pub is_stream : (l : List Frozen) → thawed_strictly form s ≡ given l → IsStreamOf form s l
+  is_stream l e =
       let h = (exact form).sound s l (thawed_of form s l e) in
       let o = onward_given (thawed form s) strict l e in
       let same : o.0 ≡ l = strict_same o.0 l o.2 in
       record { sized = h.1; accepted = all_accepted l (strict_given l l (rw same at o.2)); bytes = h.0 }
 
-  pub of-stream : (l : List Frozen) → IsStreamOf form s l → thawed_strictly form s ≡ given l
-  of-stream l i =
+  pub of_stream : (l : List Frozen) → IsStreamOf form s l → thawed_strictly form s ≡ given l
+  of_stream l i =
       let t : thawed form s ≡ given l = ap (thawed form) i.bytes ∙ (exact form).complete l i.sized in
       ap (λ (a : Answer (List Frozen)). onward a strict) t ∙ given_strict l i.accepted
 
@@ -110,8 +110,8 @@ judged_by form other s (NoMessages k) p l e = not_refused (sym (p ∙ ap (counts
 
 pub judged_exactly : JudgedExactly
 judged_exactly form other s r p = (
-  λ x. let c : Counted form other s x.0 x.1 x.2 = counted form other s x.0 x.1 x.2 (sym (ap strictly_in x.3) ∙ p) in (c.messages, is-stream form s c.messages c.are),
-  λ x. judged_by form other s r p x.0 (of-stream form s x.0 x.1),
+  λ x. let c : Counted form other s x.0 x.1 x.2 = counted form other s x.0 x.1 x.2 (sym (ap strictly_in x.3) ∙ p) in (c.messages, is_stream form s c.messages c.are),
+  λ x. judged_by form other s r p x.0 (of_stream form s x.0 x.1),
 )
 
 -- A refusal that is 19 is BadFreeze.
@@ -152,7 +152,7 @@ module _ (form : Form) (s oldList oldOut : List ℕ) (r : Written) (newList newO
   holds : (l : List Frozen) → IsStreamOf form s l → Roomy l oldList oldOut → Holds form l oldList oldOut r newList newOut
   unfolding thawing listed
   holds l i room =
-      let e = of-stream form s l i in
+      let e = of_stream form s l i in
       let t : thawed form s ≡ given l = thawed_of form s l e in
       let a : thawing form (length oldList) (length oldOut) s ≡ given (length l) =
       rw (e, le-ltb (length oldList) (3 * length l) room.places, le-ltb (length oldOut) (length (datagrams_of l)) room.room) refl in
@@ -174,10 +174,10 @@ module _ (form : Form) (s oldList oldOut : List ℕ) (r : Written) (newList newO
   unfolding thawing
   read_as n e =
       let o = onward_given (thawed_strictly form s) (listed (length oldList) (length oldOut)) n (sym promise.answer ∙ ap written e) in
-      (o.0, is-stream form s o.0 o.1, fits_by n o.0 o.2)
+      (o.0, is_stream form s o.0 o.1, fits_by n o.0 o.2)
 
-  thaws-exactly : ThawsExactly form s oldList oldOut r newList newOut
-  thaws-exactly =
+  thaws_exactly : ThawsExactly form s oldList oldOut r newList newOut
+  thaws_exactly =
       record {
         holds = holds;
         peers = λ l i. subst (λ (t : List ℕ). PeersAt form t 0 l) (sym i.bytes) (peers_from form [] l i.sized);
@@ -185,7 +185,7 @@ module _ (form : Form) (s oldList oldOut : List ℕ) (r : Written) (newList newO
       }
 
 pub thawing_exactly : Thawing
-thawing_exactly form s oldList oldOut r newList newOut p = thaws-exactly form s oldList oldOut r newList newOut p
+thawing_exactly form s oldList oldOut r newList newOut p = thaws_exactly form s oldList oldOut r newList newOut p
 
 pub appended : Appended
 appended form l m = stream_append form l m
@@ -207,7 +207,7 @@ froze form i shaped b old start r n mid f e =
     let a : freezing form (length old) start i.peer i.lent i.packet ≡ given n = sym f.answer ∙ ap written e in
     let o = onward_given (strict_datagram i.lent i.packet) (λ d. frozen_in form (length old) start (record { peer = i.peer; datagram = d })) n a in
     let q = onward_given (writing true (Given full_size) full_size i.lent i.packet) (λ k. given (bytes_written true i.lent i.packet)) o.0 o.1 in
-    let w = strict-written (Given full_size) full_size i.lent i.packet shaped b q.0 q.1 in
+    let w = strict_written (Given full_size) full_size i.lent i.packet shaped b q.0 q.1 in
     let d : layout (meaning i.lent i.packet) ≡ o.0 = same_given q.2 in
     let k = room_by (length old) start (message_of form (message_for i)) (length (message_of form (message_for i))) n (rw d o.2) in
     record {
@@ -295,7 +295,7 @@ thawed_then_frozen form m d b read is most edits held short old start r new room
     let fits = (on_given (Taken true s) (reading true s) p (taken true s b) gives).fits in
     let n : ℕ = length (layout (meaning t p)) in
     let e : n ≡ length s = ap length a.1 in
-    let w = strict-writes (Given full_size) full_size t p k.1 (record { store = rw (le-ltb max_store (length s) fits) (le-ltb max_store (length edits) short); records = k.0 edits; wellformed = a.0; within = le-ltb full_size n (omega arith); fits = omega arith }) in
+    let w = strict_writes (Given full_size) full_size t p k.1 (record { store = rw (le-ltb max_store (length s) fits) (le-ltb max_store (length edits) short); records = k.0 edits; wellformed = a.0; within = le-ltb full_size n (omega arith); fits = omega arith }) in
     let z : Frozen = record { peer = m.peer; datagram = bytes_written true t p } in
     let same : z ≡ m = ap (λ (x : List ℕ). record { peer = m.peer; datagram = x }) a.1 in
     let h : freezing form (length old) start m.peer t p ≡ given (length (message_of form m)) =
@@ -309,13 +309,13 @@ twelve_by : (form : Form) (peer : List ℕ) (s : Stores) (p : Packet) → Shaped
     → onward (onward a (λ n. given (bytes_written true s p))) (λ d. frozen_in form room start (record { peer = peer; datagram = d })) ≡ refused 12
     → (length (layout (meaning s p)) ≤ full_size) × (room < start + length (message_of form (record { peer = peer; datagram = layout (meaning s p) })))
 twelve_by form peer s p shaped b room start (given n) q e =
-    let w = strict-written (Given full_size) full_size s p shaped b n q in
+    let w = strict_written (Given full_size) full_size s p shaped b n q in
     let m : List ℕ = message_of form (record { peer = peer; datagram = layout (meaning s p) }) in (
       w.0.fits,
       on_lt (λ (x : Answer ℕ). x ≡ refused 12 → room < start + length m) room (start + length m) (λ h z. h) (λ h z. not_refused z) e,
     )
 twelve_by form peer s p shaped b room start (refused k) q e =
-    absurd (on_refused (λ (j : ℕ). j ≡ 12 → ⊥) (writing true (Given full_size) full_size s p) k (never-twelve s p) q (same_refused e))
+    absurd (on_refused (λ (j : ℕ). j ≡ 12 → ⊥) (writing true (Given full_size) full_size s p) k (never_twelve s p) q (same_refused e))
 
 pub room_of_the_stream : RoomOfTheStream
 unfolding freezing strict_datagram

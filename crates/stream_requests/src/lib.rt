@@ -1,5 +1,6 @@
 // Requests on freeze streams: a message frozen, a stream thawed, and a stream converted to the other form.
 #![tactic(auto)]
+
 mod frozen;
 mod shown;
 mod thawed;

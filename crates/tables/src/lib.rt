@@ -1,5 +1,6 @@
 // The option numbers and content formats that have names, and where a number stands among them.
 #![tactic(auto)]
+
 ghost use Rattle.std.specs.Prelude.{◌≡◌};
 ghost use Rattle.ground.specs.Table.{listed};
 ghost use Rattle.tables.specs.Numbers.{option_numbers, content_formats};

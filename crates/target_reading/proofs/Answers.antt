@@ -26,19 +26,19 @@ use Rattle.target_reading.specs.declared.Filled.{Filled}
 use Rattle.target_reading.specs.declared.TargetRead.{TargetRead}
 use Rattle.target_reading.specs.declared.Verdict.{Verdict}
 use Rattle.target_reading.specs.declared.Verdict.TheVariants.{Passes}
-use Rattle.target_reading.proofs.Placing.{records_append, records_count, joined_length, segments-read, query-read}
+use Rattle.target_reading.proofs.Placing.{records_append, records_count, joined_length, segments_read, query_read}
 
 -- Parts whose values are known can be put, and are then what is filled.
 module _ (kind : Kind) (sep : ℕ) (x store : List ℕ) (f : Filled) (vs : List (List ℕ)) (e : values_of kind f.count (parts sep x) ≡ good vs) where
-  same-values : values_in kind sep x f.count ≡ vs
-  same-values = ap goods e
+  same_values : values_in kind sep x f.count ≡ vs
+  same_values = ap goods e
 
   placeable : f.count + length vs ≤ max_options → f.at + total vs ≤ length store → length store ≤ max_store → length f.options ≡ max_options → Placeable kind sep x store f
   placeable few room short array =
       record {
-        good = e ∙ ap good (sym same-values);
-        few = omega (arith, few, ap length same-values);
-        room = omega (arith, room, ap total same-values);
+        good = e ∙ ap good (sym same_values);
+        few = omega (arith, few, ap length same_values);
+        room = omega (arith, room, ap total same_values);
         short = short;
         array = array;
       }
@@ -48,69 +48,69 @@ module _ (s old : List ℕ) (at : ℕ) (ready : Readable s old at) (mark : ℕ) 
   abbrev pub first : Filled
   first = record { options = new_packet.options; count = 0; at = at }
 
-  path-values : values_of segment 0 (parts 0x2F x) ≡ good (target_in (reading s)).path
-  path-values =
-      ap (λ (z : List ℕ). values_of segment 0 (parts 0x2F z)) ex ∙ segments-read s (target_in (reading s)) ready.good mark found
+  path_values : values_of segment 0 (parts 0x2F x) ≡ good (target_in (reading s)).path
+  path_values =
+      ap (λ (z : List ℕ). values_of segment 0 (parts 0x2F z)) ex ∙ segments_read s (target_in (reading s)) ready.good mark found
 
-  pub path-placeable : Placeable segment 0x2F x old first
+  pub path_placeable : Placeable segment 0x2F x old first
   unfolding new_packet
-  path-placeable =
-      placeable segment 0x2F x old first (target_in (reading s)).path path-values (omega (arith, ready.few)) (omega (arith, ready.room)) ready.short (length-replicate max_options none)
+  path_placeable =
+      placeable segment 0x2F x old first (target_in (reading s)).path path_values (omega (arith, ready.few)) (omega (arith, ready.room)) ready.short (length-replicate max_options none)
 
   module _ (r : Filled) (mid : List ℕ) (fills : Fills segment 11 0x2F x old first r mid) (y : List ℕ) (ey : y ≡ take (length s - (mark + 1)) (drop (mark + 1) s)) where
     same : values_in segment 0x2F x 0 ≡ (target_in (reading s)).path
-    same = same-values segment 0x2F x old first (target_in (reading s)).path path-values
+    same = same_values segment 0x2F x old first (target_in (reading s)).path path_values
 
-    r-count : r.count ≡ length (target_in (reading s)).path
-    r-count = fills.count ∙ (zero-add (length (values_in segment 0x2F x 0)) ∙ ap length same)
+    r_count : r.count ≡ length (target_in (reading s)).path
+    r_count = fills.count ∙ (zero-add (length (values_in segment 0x2F x 0)) ∙ ap length same)
 
-    r-at : r.at ≡ at + total (target_in (reading s)).path
-    r-at = fills.at ∙ ap (λ (vs : List (List ℕ)). at + total vs) same
+    r_at : r.at ≡ at + total (target_in (reading s)).path
+    r_at = fills.at ∙ ap (λ (vs : List (List ℕ)). at + total vs) same
 
-    r-options : r.options ≡ sets new_packet.options 0 (records_at 11 at (target_in (reading s)).path)
-    r-options = fills.options ∙ ap (λ (vs : List (List ℕ)). sets new_packet.options 0 (records_at 11 at vs)) same
+    r_options : r.options ≡ sets new_packet.options 0 (records_at 11 at (target_in (reading s)).path)
+    r_options = fills.options ∙ ap (λ (vs : List (List ℕ)). sets new_packet.options 0 (records_at 11 at vs)) same
 
-    mid-is : mid ≡ sets old at (joined (target_in (reading s)).path)
-    mid-is = fills.store ∙ ap (λ (vs : List (List ℕ)). sets old at (joined vs)) same
+    mid_is : mid ≡ sets old at (joined (target_in (reading s)).path)
+    mid_is = fills.store ∙ ap (λ (vs : List (List ℕ)). sets old at (joined vs)) same
 
-    mid-length : length mid ≡ length old
-    mid-length = ap length mid-is ∙ length-sets old at (joined (target_in (reading s)).path)
+    mid_length : length mid ≡ length old
+    mid_length = ap length mid_is ∙ length-sets old at (joined (target_in (reading s)).path)
 
-    query-values : values_of query r.count (parts 0x26 y) ≡ good (target_in (reading s)).query
-    query-values =
-        ap (λ (n : ℕ). values_of query n (parts 0x26 y)) r-count
-        ∙ (ap (λ (z : List ℕ). values_of query (length (target_in (reading s)).path) (parts 0x26 z)) ey ∙ query-read s (target_in (reading s)) ready.good mark found)
+    query_values : values_of query r.count (parts 0x26 y) ≡ good (target_in (reading s)).query
+    query_values =
+        ap (λ (n : ℕ). values_of query n (parts 0x26 y)) r_count
+        ∙ (ap (λ (z : List ℕ). values_of query (length (target_in (reading s)).path) (parts 0x26 z)) ey ∙ query_read s (target_in (reading s)) ready.good mark found)
 
-    pub query-placeable : Placeable query 0x26 y mid r
+    pub query_placeable : Placeable query 0x26 y mid r
     unfolding new_packet
-    query-placeable =
-        placeable query 0x26 y mid r (target_in (reading s)).query query-values
-        (omega (arith, ready.few, r-count))
-        (omega (arith, ready.room, r-at, mid-length))
-        (omega (arith, ready.short, mid-length))
-        (ap length r-options ∙ (length-sets new_packet.options 0 (records_at 11 at (target_in (reading s)).path) ∙ length-replicate max_options none))
+    query_placeable =
+        placeable query 0x26 y mid r (target_in (reading s)).query query_values
+        (omega (arith, ready.few, r_count))
+        (omega (arith, ready.room, r_at, mid_length))
+        (omega (arith, ready.short, mid_length))
+        (ap length r_options ∙ (length-sets new_packet.options 0 (records_at 11 at (target_in (reading s)).path) ∙ length-replicate max_options none))
 
-    pub both-filled : (q : Filled) (new : List ℕ) → Fills query 15 0x26 y mid r q new → Reads s at old q new
-    both-filled q new more =
+    pub both_filled : (q : Filled) (new : List ℕ) → Fills query 15 0x26 y mid r q new → Reads s at old q new
+    both_filled q new more =
         let P : List (List ℕ) = (target_in (reading s)).path in
         let Q : List (List ℕ) = (target_in (reading s)).query in
-        let last : values_in query 0x26 y r.count ≡ Q = same-values query 0x26 y mid r Q query-values in
-        let c : r.count ≡ 0 + length (records_at 11 at P) = r-count ∙ (sym (records_count 11 at P) ∙ sym (zero-add (length (records_at 11 at P)))) in
-        let n : r.at ≡ at + length (joined P) = r-at ∙ ap (λ (k : ℕ). at + k) (sym (joined_length P)) in
+        let last : values_in query 0x26 y r.count ≡ Q = same_values query 0x26 y mid r Q query_values in
+        let c : r.count ≡ 0 + length (records_at 11 at P) = r_count ∙ (sym (records_count 11 at P) ∙ sym (zero-add (length (records_at 11 at P)))) in
+        let n : r.at ≡ at + length (joined P) = r_at ∙ ap (λ (k : ℕ). at + k) (sym (joined_length P)) in
         record {
           options =
               more.options
               ∙ (ap (λ (vs : List (List ℕ)). sets r.options r.count (records_at 15 r.at vs)) last
-              ∙ (ap (λ (k : ℕ). sets r.options r.count (records_at 15 k Q)) r-at
+              ∙ (ap (λ (k : ℕ). sets r.options r.count (records_at 15 k Q)) r_at
               ∙ (ap (λ (k : ℕ). sets r.options k (records_at 15 (at + total P) Q)) c
-              ∙ (ap (λ (os : List OptionRecord). sets os (0 + length (records_at 11 at P)) (records_at 15 (at + total P) Q)) r-options
+              ∙ (ap (λ (os : List OptionRecord). sets os (0 + length (records_at 11 at P)) (records_at 15 (at + total P) Q)) r_options
               ∙ sym (records_append new_packet.options 0 (records_at 11 at P) (records_at 15 (at + total P) Q))))));
-          count = omega (arith, more.count, ap length last, r-count);
+          count = omega (arith, more.count, ap length last, r_count);
           store =
               more.store
               ∙ (ap (λ (vs : List (List ℕ)). sets mid r.at (joined vs)) last
               ∙ (ap (λ (k : ℕ). sets mid k (joined Q)) n
-              ∙ (ap (λ (l : List ℕ). sets l (at + length (joined P)) (joined Q)) mid-is ∙ sym (sets_append old at (joined P) (joined Q)))));
+              ∙ (ap (λ (l : List ℕ). sets l (at + length (joined P)) (joined Q)) mid_is ∙ sym (sets_append old at (joined P) (joined Q)))));
         }
 
 -- What a tally says of the text.
@@ -158,44 +158,44 @@ option_shown a start i old v r e tv b =
 
 -- The reply to a text, test by test.
 module _ (room start : ℕ) (s : List ℕ) where
-  pub reply-long : max_store < room → reply_to room start s ≡ refused 10
+  pub reply_long : max_store < room → reply_to room start s ≡ refused 10
   unfolding reply_to
-  reply-long h = rw (lt-ltb max_store room h) refl
+  reply_long h = rw (lt-ltb max_store room h) refl
 
   module _ (short : room ≤ max_store) where
-    pub reply-text : reading s ≡ bad_text → reply_to room start s ≡ refused 15
+    pub reply_text : reading s ≡ bad_text → reply_to room start s ≡ refused 15
     unfolding reply_to
-    reply-text e = rw (le-ltb max_store room short, e) refl
+    reply_text e = rw (le-ltb max_store room short, e) refl
 
-    pub reply-option : (i : ℕ) → reading s ≡ bad_option i → reply_to room start s ≡ refused_at 16 i
+    pub reply_option : (i : ℕ) → reading s ≡ bad_option i → reply_to room start s ≡ refused_at 16 i
     unfolding reply_to
-    reply-option i e = rw (le-ltb max_store room short, e) refl
+    reply_option i e = rw (le-ltb max_store room short, e) refl
 
     module _ (count bytes : ℕ) (told : Told (reading s) count bytes) where
-      in-reply : reply_to room start s ≡ placed room start (good (target_in (reading s)))
+      in_reply : reply_to room start s ≡ placed room start (good (target_in (reading s)))
       unfolding reply_to
-      in-reply = rw (le-ltb max_store room short) (ap (placed room start) told.good)
+      in_reply = rw (le-ltb max_store room short) (ap (placed room start) told.good)
 
-      pub reply-many : max_options < count → reply_to room start s ≡ refused 6
-      reply-many h =
+      pub reply_many : max_options < count → reply_to room start s ≡ refused 6
+      reply_many h =
           let k : max_options < length (target_in (reading s)).path + length (target_in (reading s)).query = omega (arith, told.count) in
-          in-reply ∙ rw (lt-ltb max_options (length (target_in (reading s)).path + length (target_in (reading s)).query) k) refl
+          in_reply ∙ rw (lt-ltb max_options (length (target_in (reading s)).path + length (target_in (reading s)).query) k) refl
 
       module _ (few : count ≤ max_options) where
-        not-many : length (target_in (reading s)).path + length (target_in (reading s)).query ≤ max_options
-        not-many = omega (arith, told.count)
+        not_many : length (target_in (reading s)).path + length (target_in (reading s)).query ≤ max_options
+        not_many = omega (arith, told.count)
 
-        pub reply-room : room < start + bytes → reply_to room start s ≡ refused 12
-        reply-room h =
+        pub reply_room : room < start + bytes → reply_to room start s ≡ refused 12
+        reply_room h =
             let k : room < start + (total (target_in (reading s)).path + total (target_in (reading s)).query) = omega (arith, told.bytes) in
-            in-reply
-            ∙ rw (le-ltb max_options (length (target_in (reading s)).path + length (target_in (reading s)).query) not-many, lt-ltb room (start + (total (target_in (reading s)).path + total (target_in (reading s)).query)) k) refl
+            in_reply
+            ∙ rw (le-ltb max_options (length (target_in (reading s)).path + length (target_in (reading s)).query) not_many, lt-ltb room (start + (total (target_in (reading s)).path + total (target_in (reading s)).query)) k) refl
 
-        pub reply-passes : start + bytes ≤ room → reply_to room start s ≡ passes (target_in (reading s))
-        reply-passes h =
+        pub reply_passes : start + bytes ≤ room → reply_to room start s ≡ passes (target_in (reading s))
+        reply_passes h =
             let k : start + (total (target_in (reading s)).path + total (target_in (reading s)).query) ≤ room = omega (arith, told.bytes) in
-            in-reply
-            ∙ rw (le-ltb max_options (length (target_in (reading s)).path + length (target_in (reading s)).query) not-many, le-ltb room (start + (total (target_in (reading s)).path + total (target_in (reading s)).query)) k) refl
+            in_reply
+            ∙ rw (le-ltb max_options (length (target_in (reading s)).path + length (target_in (reading s)).query) not_many, le-ltb room (start + (total (target_in (reading s)).path + total (target_in (reading s)).query)) k) refl
 
 -- A text that passes.
 pub passes_shown : (room start : ℕ) (s old : List ℕ) (f : Filled) (new : List ℕ) (p : Packet) → reply_to room start s ≡ passes (target_in (reading s)) → Reads s start old f new → p ≡ packet_with f.count f.options → Answers (reply_to room start s) start old (record { outcome = Passes; packet = p }) new

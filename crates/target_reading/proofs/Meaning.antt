@@ -44,17 +44,17 @@ module _ (start : ℕ) (t : Target) (few : length t.path + length t.query ≤ ma
       ∙ ap (λ (n : ℕ). length t.path + n) (records_count 15 (start + total t.path) t.query))
 
   -- The records in use are those of the text.
-  pub records-are : records_of (packet_for start t) ≡ records_for start t
+  pub records_are : records_of (packet_for start t) ≡ records_for start t
   unfolding packet_for new_packet
-  records-are =
+  records_are =
       let rs : List OptionRecord = records_for start t in
       let room : 0 + length rs ≤ length (replicate max_options none) = omega (arith, count_is, length-replicate max_options none) in
       ap (take (length t.path + length t.query)) (sets-eq rs (replicate max_options none) 0 room)
       ∙ take_at rs (drop (0 + length rs) (replicate max_options none)) (length t.path + length t.query) count_is
 
   -- They mean the options of the text, whatever the datagram holds.
-  pub options-are : (d old : List ℕ) → start + (total t.path + total t.query) ≤ length old → map (option_of (stores d (sets old start (joined t.path ++ joined t.query)))) (records_of (packet_for start t)) ≡ options_of t
-  options-are d old room =
+  pub options_are : (d old : List ℕ) → start + (total t.path + total t.query) ≤ length old → map (option_of (stores d (sets old start (joined t.path ++ joined t.query)))) (records_of (packet_for start t)) ≡ options_of t
+  options_are d old room =
       let P : List (List ℕ) = t.path in
       let Q : List (List ℕ) = t.query in
       let bytes : List ℕ = joined P ++ joined Q in
@@ -67,7 +67,7 @@ module _ (start : ℕ) (t : Target) (few : length t.path + length t.query ≤ ma
       let stored : drop start new ≡ bytes ++ rest = ap (drop start) (sets-eq bytes old start fits ∙ append_assoc (take start old) bytes rest) ∙ drop_at (take start old) (bytes ++ rest) start front in
       let first : drop start new ≡ joined P ++ (joined Q ++ rest) = stored ∙ append_assoc (joined P) (joined Q) rest in
       let second : drop (start + total P) new ≡ joined Q ++ rest = sym (drop-drop (total P) start new) ∙ (ap (drop (total P)) first ∙ drop_at (joined P) (joined Q ++ rest) (total P) (joined_length P)) in
-      ap (map (option_of (stores d new))) records-are
+      ap (map (option_of (stores d new))) records_are
       ∙ (map-append (option_of (stores d new)) (records_at 11 start P) (records_at 15 (start + total P) Q)
       ∙ (ap (λ (os : List Opt). os ++ map (option_of (stores d new)) (records_at 15 (start + total P) Q)) (meant 11 d new start P (joined Q ++ rest) first (omega (arith, same)))
       ∙ ap (λ (os : List Opt). options_for 11 P ++ os) (meant 15 d new (start + total P) Q rest second (omega (arith, same)))))

@@ -41,26 +41,26 @@ pub decoding_start : (kind : Kind) (s v old : List ℕ) (at : ℕ) → decode ki
 decoding_start kind s v old at e = record { front = []; rest = v; put = record { next = sym (add-zero at); out = refl }; left = e; all = refl }
 
 module _ (kind : Kind) (s v old : List ℕ) (at : ℕ) (new : List ℕ) (next i : ℕ) (w : Decoding kind s v old at new next i) where
-  pub decoding-kept : length new ≡ length old
-  decoding-kept = ap length w.put.out ∙ length-sets old at w.front
+  pub decoding_kept : length new ≡ length old
+  decoding_kept = ap length w.put.out ∙ length-sets old at w.front
 
-  pub decoding-end : decode kind (drop i s) ≡ good [] → Put old at v next new
-  decoding-end h =
+  pub decoding_end : decode kind (drop i s) ≡ good [] → Put old at v next new
+  decoding_end h =
       let n : [] ≡ w.rest = good_same [] w.rest (sym h ∙ w.left) in
       let e : w.front ≡ v = sym (append-nil w.front) ∙ (ap (λ (x : List ℕ). w.front ++ x) n ∙ w.all) in
       subst (λ (x : List ℕ). Put old at x next new) e w.put
 
-  pub decoding-never : decode kind (drop i s) ≡ bad_text → ⊥
-  decoding-never e = no_text w.rest (sym e ∙ w.left)
+  pub decoding_never : decode kind (drop i s) ≡ bad_text → ⊥
+  decoding_never e = no_text w.rest (sym e ∙ w.left)
 
   module _ (b after : ℕ) (t : Took kind any s i b after) where
-    pub decoding-room : at + length v ≤ length old → next < length new
-    decoding-room r =
+    pub decoding_room : at + length v ≤ length old → next < length new
+    decoding_room r =
         before_good (λ x. w.front ++ x ≡ v → next < length new) b (decode kind (drop after s)) w.rest (sym t.is ∙ w.left)
-        (λ x q e. omega (arith, decoding-kept, w.put.next, sym (ap length e) ∙ length-append w.front (b ∷ x))) w.all
+        (λ x q e. omega (arith, decoding_kept, w.put.next, sym (ap length e) ∙ length-append w.front (b ∷ x))) w.all
 
-    pub decoding-turn : Decoding kind s v old at (set new next b) (next + 1) after
-    decoding-turn =
+    pub decoding_turn : Decoding kind s v old at (set new next b) (next + 1) after
+    decoding_turn =
         before_good (λ x. w.front ++ x ≡ v → Decoding kind s v old at (set new next b) (next + 1) after) b (decode kind (drop after s)) w.rest (sym t.is ∙ w.left)
         (λ x q e. record {
           front = w.front ++ (b ∷ []);
@@ -85,8 +85,8 @@ module _ (number : ℕ) (vs : List (List ℕ)) (old : List ℕ) (f : Filled) whe
   abbrev made : (at len : ℕ) → OptionRecord
   made at len = record { number = number; home = Edits; spare = 0; start = at; len = len }
 
-  pub owing-step : (v : List ℕ) (ws : List (List ℕ)) (new : List ℕ) (options : List OptionRecord) (count at : ℕ) → Owing number vs old f (v ∷ ws) new options count at → (next : ℕ) (newer : List ℕ) → Put new at v next newer → Owing number vs old f ws newer (set options count (made at (next - at))) (count + 1) next
-  owing-step v ws new options count at w next newer p =
+  pub owing_step : (v : List ℕ) (ws : List (List ℕ)) (new : List ℕ) (options : List OptionRecord) (count at : ℕ) → Owing number vs old f (v ∷ ws) new options count at → (next : ℕ) (newer : List ℕ) → Put new at v next newer → Owing number vs old f ws newer (set options count (made at (next - at))) (count + 1) next
+  owing_step v ws new options count at w next newer p =
       let n : length newer ≡ length new = ap length p.out ∙ length-sets new at v in
       let l : next - at ≡ length v = omega (arith, p.next) in
       record {
@@ -151,8 +151,8 @@ filling_none kind number sep (c ∷ s) old f r h e = absurd (omega arith)
 
 module _ (kind : Kind) (number sep : ℕ) (s : List ℕ) (vs : List (List ℕ)) (old : List ℕ) (f : Filled) (new : List ℕ) (options : List OptionRecord) (count at from : ℕ) (w : Filling kind number sep s vs old f new options count at from)
     (end : ℕ) (found : end ≡ from + first_length sep (drop from s)) where
-  pub end-inside : end ≤ length s
-  end-inside = omega (arith, found, first_small sep (drop from s), length-drop from s, w.place)
+  pub end_inside : end ≤ length s
+  end_inside = omega (arith, found, first_small sep (drop from s), length-drop from s, w.place)
 
   -- The part that ends here.
   abbrev this : List ℕ
@@ -162,54 +162,54 @@ module _ (kind : Kind) (number sep : ℕ) (s : List ℕ) (vs : List (List ℕ)) 
   abbrev others : (ss : List (List ℕ)) → Type 0
   others ss = split sep (drop from s) ≡ (this ∷ ss)
 
-  last-part : end ≡ length s → others []
-  last-part e =
+  last_part : end ≡ length s → others []
+  last_part e =
       let x : List ℕ = drop from s in
       let k : first_length sep x ≡ length x = omega (arith, found, length-drop from s, w.place) in
       let m : end - from ≡ length x = omega (arith, found, length-drop from s, w.place) in
       split_last sep x k ∙ ap (λ (p : List ℕ). p ∷ []) (sym (ap (λ (n : ℕ). take n x) m ∙ take-length x))
 
-  next-part : (end ≡ length s → ⊥) → others (split sep (drop (end + 1) s))
-  next-part e =
+  next_part : (end ≡ length s → ⊥) → others (split sep (drop (end + 1) s))
+  next_part e =
       let x : List ℕ = drop from s in
-      let k : first_length sep x < length x = omega (arith, found, length-drop from s, w.place, end-inside) in
+      let k : first_length sep x < length x = omega (arith, found, length-drop from s, w.place, end_inside) in
       let m : end - from ≡ first_length sep x = omega (arith, found) in
       let n : from + suc (first_length sep x) ≡ end + 1 = omega (arith, found) in
       let t : drop (suc (first_length sep x)) x ≡ drop (end + 1) s = drop-drop (suc (first_length sep x)) from s ∙ ap (λ (n : ℕ). drop n s) n in
       split_next sep x k ∙ (ap (λ (n : ℕ). take n x ∷ split sep (drop (suc (first_length sep x)) x)) (sym m) ∙ ap (λ (y : List ℕ). take (end - from) x ∷ split sep y) t)
 
-  split-here : (ss : List (List ℕ)) → others ss → Firsts kind count this ss w.rest
-  split-here ss o = firsts kind count this ss w.rest (ap (values_of kind count) (sym o) ∙ w.left)
+  split_here : (ss : List (List ℕ)) → others ss → Firsts kind count this ss w.rest
+  split_here ss o = firsts kind count this ss w.rest (ap (values_of kind count) (sym o) ∙ w.left)
 
   some : {A : Type 0} → ((ss : List (List ℕ)) → others ss → A) → A
-  some k = by_eq end (length s) (λ e. k [] (last-part e)) (λ e. k (split sep (drop (end + 1) s)) (next-part e))
+  some k = by_eq end (length s) (λ e. k [] (last_part e)) (λ e. k (split sep (drop (end + 1) s)) (next_part e))
 
-  pub places-here : Places kind this new at
-  places-here =
+  pub places_here : Places kind this new at
+  places_here =
       some (λ ss o.
-      let g = split-here ss o in
+      let g = split_here ss o in
       record { good = g.decodes; room = omega (arith, w.owing.room, ap total g.both) })
 
-  pub count-here : count < max_options
-  count-here = some (λ ss o. let g = split-here ss o in omega (arith, w.owing.few, ap length g.both))
+  pub count_here : count < max_options
+  count_here = some (λ ss o. let g = split_here ss o in omega (arith, w.owing.few, ap length g.both))
 
   module _ (next : ℕ) (newer : List ℕ) (p : Put new at (bytes_of kind this) next newer) where
     moved : (ss : List (List ℕ)) (g : Firsts kind count this ss w.rest) → Owing number vs old f g.after newer (set options count (made number vs old f at (next - at))) (count + 1) next
     moved ss g =
-        owing-step number vs old f (bytes_of kind this) g.after new options count at
+        owing_step number vs old f (bytes_of kind this) g.after new options count at
         (subst (λ (r : List (List ℕ)). Owing number vs old f r new options count at) g.both w.owing) next newer p
 
-    pub next-inside : (at ≤ next) × (next ≤ length new)
-    next-inside = let k = places-here in (omega (arith, p.next), omega (arith, p.next, k.room))
+    pub next_inside : (at ≤ next) × (next ≤ length new)
+    next_inside = let k = places_here in (omega (arith, p.next), omega (arith, p.next, k.room))
 
-    pub filling-turn : (end ≡ length s → ⊥) → Filling kind number sep s vs old f newer (set options count (made number vs old f at (next - at))) (count + 1) next (end + 1)
-    filling-turn e =
-        let g = split-here (split sep (drop (end + 1) s)) (next-part e) in
-        record { rest = g.after; left = g.later; place = omega (arith, end-inside); owing = moved (split sep (drop (end + 1) s)) g }
+    pub filling_turn : (end ≡ length s → ⊥) → Filling kind number sep s vs old f newer (set options count (made number vs old f at (next - at))) (count + 1) next (end + 1)
+    filling_turn e =
+        let g = split_here (split sep (drop (end + 1) s)) (next_part e) in
+        record { rest = g.after; left = g.later; place = omega (arith, end_inside); owing = moved (split sep (drop (end + 1) s)) g }
 
-    pub filling-end : (end ≡ length s) → Owing number vs old f [] newer (set options count (made number vs old f at (next - at))) (count + 1) next
-    filling-end e =
-        let g = split-here [] (last-part e) in
+    pub filling_end : (end ≡ length s) → Owing number vs old f [] newer (set options count (made number vs old f at (next - at))) (count + 1) next
+    filling_end e =
+        let g = split_here [] (last_part e) in
         subst (λ (r : List (List ℕ)). Owing number vs old f r newer (set options count (made number vs old f at (next - at))) (count + 1) next) (sym (good_same [] g.after g.later)) (moved [] g)
 
 -- Nothing is owed any more.
@@ -241,18 +241,18 @@ after_first : (n : ℕ) (s : List ℕ) → take (n - 1) (drop 1 s) ≡ drop 1 (t
 after_first zero [] = refl
 after_first zero (c ∷ s) = ap (λ (k : ℕ). take k s) (zero-sub 1)
 after_first (suc n) [] = take-nil (suc n - 1)
-after_first (suc n) (c ∷ s) = ap (λ (k : ℕ). take k s) (suc-sub-one n)
+after_first (suc n) (c ∷ s) = ap (λ (k : ℕ). take k s) (suc_sub_one n)
   where
-    suc-sub-one : (n : ℕ) → suc n - 1 ≡ n
-    suc-sub-one n = omega arith
+    suc_sub_one : (n : ℕ) → suc n - 1 ≡ n
+    suc_sub_one n = omega arith
 
 module _ (s : List ℕ) (t : Target) (e : reading s ≡ good t) (mark : ℕ) (found : mark ≡ 0 + first_length 0x3F s) where
   at_mark : mark ≡ first_length 0x3F s
   at_mark = found ∙ zero-add (first_length 0x3F s)
 
-  pub segments-read : values_of segment 0 (parts 0x2F (take (mark - 1) (drop 1 s))) ≡ good t.path
+  pub segments_read : values_of segment 0 (parts 0x2F (take (mark - 1) (drop 1 s))) ≡ good t.path
   unfolding reading
-  segments-read =
+  segments_read =
       on_good_lem (segments_of (path_of s)) (λ ss. on_good (values_of segment 0 ss) (queried s)) t (values_of segment 0 (parts 0x2F (take (mark - 1) (drop 1 s))) ≡ good t.path) e
       (λ ss q r. on_good_lem (values_of segment 0 ss) (queried s) t (values_of segment 0 (parts 0x2F (take (mark - 1) (drop 1 s))) ≡ good t.path) r
       (λ path p r₂. on_good_lem (values_of query (length path) (parts 0x26 (query_of s))) (λ qs. good (record { path = path; query = qs })) t (values_of segment 0 (parts 0x2F (take (mark - 1) (drop 1 s))) ≡ good t.path) r₂
@@ -262,9 +262,9 @@ module _ (s : List ℕ) (t : Target) (e : reading s ≡ good t) (mark : ℕ) (fo
       ap (λ (x : List ℕ). values_of segment 0 (parts 0x2F x)) text
       ∙ (ap (values_of segment 0) (sym (segments_parts (path_of s) ss q)) ∙ (p ∙ ap (λ (x : Target). good x.path) same)))))
 
-  pub query-read : values_of query (length t.path) (parts 0x26 (take (length s - (mark + 1)) (drop (mark + 1) s))) ≡ good t.query
+  pub query_read : values_of query (length t.path) (parts 0x26 (take (length s - (mark + 1)) (drop (mark + 1) s))) ≡ good t.query
   unfolding reading
-  query-read =
+  query_read =
       on_good_lem (segments_of (path_of s)) (λ ss. on_good (values_of segment 0 ss) (queried s)) t (values_of query (length t.path) (parts 0x26 (take (length s - (mark + 1)) (drop (mark + 1) s))) ≡ good t.query) e
       (λ ss q r. on_good_lem (values_of segment 0 ss) (queried s) t (values_of query (length t.path) (parts 0x26 (take (length s - (mark + 1)) (drop (mark + 1) s))) ≡ good t.query) r
       (λ path p r₂. on_good_lem (values_of query (length path) (parts 0x26 (query_of s))) (λ qs. good (record { path = path; query = qs })) t (values_of query (length t.path) (parts 0x26 (take (length s - (mark + 1)) (drop (mark + 1) s))) ≡ good t.query) r₂

@@ -1,5 +1,6 @@
 // The path and query text of a coap URI as a new packet, whose values stand in the edit store (RFC 7252, section 6.4).
 #![tactic(auto)]
+
 ghost use Rattle.std.specs.Prelude.{◌≡◌, ◌-◌, ◌≤◌, length, take, drop};
 ghost use Rattle.placing.specs.Put.{Put};
 ghost use Rattle.percent.specs.Step.{kind_of};

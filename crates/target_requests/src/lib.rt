@@ -1,5 +1,6 @@
 // Requests on path and query as text: the text of a raw packet's records, and the packet of a text.
 #![tactic(auto)]
+
 mod told;
 
 use packet::Packet;

@@ -82,13 +82,13 @@ pub counting_start : (s : Stores) (kind : Kind) (n : ℕ) (rs : List OptionRecor
 counting_start s kind n rs = record { place = omega arith; small = omega arith; all = omega arith }
 
 module _ (s : Stores) (kind : Kind) (n : ℕ) (os : List OptionRecord) (count total i : ℕ) (w : Counting s kind n (take count os) total i) where
-  pub counting-end : length (take count os) ≤ i → total ≡ length (behind kind (separator kind) (values_from s n (take count os)))
-  counting-end h =
+  pub counting_end : length (take count os) ≤ i → total ≡ length (behind kind (separator kind) (values_from s n (take count os)))
+  counting_end h =
       omega (arith, w.all, ap (λ (rs : List OptionRecord). length (behind kind (separator kind) (values_from s n rs))) (none_left (take count os) i h))
 
   module _ (h : i < length (take count os)) where
-    pub counting-value : is_too_long (lengths_of s) ≡ false → (get_or os i none).number ≡ n → Counting s kind n (take count os) (total + 1 + length (value_of s (get_or os i none)) + 2 * others kind (value_of s (get_or os i none))) (i + 1)
-    counting-value short e =
+    pub counting_value : is_too_long (lengths_of s) ≡ false → (get_or os i none).number ≡ n → Counting s kind n (take count os) (total + 1 + length (value_of s (get_or os i none)) + 2 * others kind (value_of s (get_or os i none))) (i + 1)
+    counting_value short e =
         let v : List ℕ = value_of s (get_or os i none) in
         record {
           place = omega arith;
@@ -101,8 +101,8 @@ module _ (s : Stores) (kind : Kind) (n : ℕ) (os : List OptionRecord) (count to
           );
         }
 
-    pub counting-other : ((get_or os i none).number ≡ n → ⊥) → Counting s kind n (take count os) total (i + 1)
-    counting-other e =
+    pub counting_other : ((get_or os i none).number ≡ n → ⊥) → Counting s kind n (take count os) total (i + 1)
+    counting_other e =
         record {
           place = omega arith;
           small = omega (arith, w.small);
@@ -146,8 +146,8 @@ text_size s p =
 
 -- What each answer shows.
 module _ (s : Stores) (p : Packet) (old : List ℕ) where
-  pub no-room-for : (path rest : ℕ) → path + rest ≡ length (text_in s p) → length old < path + rest → Fits s p old (Refused NoRoom) old
-  no-room-for path rest e h =
+  pub no_room_for : (path rest : ℕ) → path + rest ≡ length (text_in s p) → length old < path + rest → Fits s p old (Refused NoRoom) old
+  no_room_for path rest e h =
       let f = no_room old (text_in s p) (omega arith) in
       record { answer = f.0; output = f.1 }
 
@@ -161,9 +161,9 @@ module _ (s : Stores) (p : Packet) (old : List ℕ) where
   unfolding writable
   too_long e = rw e (record { answer = refl; output = refl })
 
-  pub bad-record : is_too_long (lengths_of s) ≡ false → bad_packet (lengths_of s) p ≡ true → ToText s p old (Refused BadRecord) old
+  pub bad_record : is_too_long (lengths_of s) ≡ false → bad_packet (lengths_of s) p ≡ true → ToText s p old (Refused BadRecord) old
   unfolding writable
-  bad-record e b = rw (e, b) (record { answer = refl; output = refl })
+  bad_record e b = rw (e, b) (record { answer = refl; output = refl })
 
   pub good_record : (r : Written) (new : List ℕ) → is_too_long (lengths_of s) ≡ false → bad_packet (lengths_of s) p ≡ false → Fits s p old r new → ToText s p old r new
   unfolding writable

@@ -1,5 +1,6 @@
 // The Uri-Path and Uri-Query options of a packet as the path and query text of a coap URI (RFC 7252, section 6.5).
 #![tactic(auto)]
+
 ghost use Rattle.std.specs.Prelude.{◌≡◌, ◌∷◌, length};
 ghost use Rattle.rfc.specs.Uri.{segment, separator};
 ghost use Rattle.rfc.specs.Percent.{code};

@@ -1,5 +1,6 @@
 // An answer by value, and how it is put at a place of the output: a word, up to four numbers, and what comes after them.
 #![tactic(auto)]
+
 ghost use Rattle.std.specs.Prelude.{◌<◌};
 
 use class::MessageClass;

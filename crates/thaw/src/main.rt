@@ -2,6 +2,7 @@
 // for each its peer and the lines that `listing` has. A refused stream gives one line, which says why and for which message. The
 // stream is read twice, so it may be of any length; from a pipe it is first copied to /tmp, and the room there bounds it.
 #![tactic(auto)]
+
 use passes::{Work, form_of, pass};
 use placing::put_bytes;
 use refusal::Outcome;

@@ -19,7 +19,7 @@ use Rattle.stream.specs.Answers.{Extent}
 use Rattle.stream.proofs.Sound.{full_some}
 use Rattle.cursor.specs.Cursor.{accepting}
 use Rattle.chunk_judging.specs.Chunks.{offset, gathered, judged_at}
-use Rattle.chunk_judging.proofs.Places.{offset_first, offset_later, gathered-length, gathered-at, past-none, past-within}
+use Rattle.chunk_judging.proofs.Places.{offset_first, offset_later, gathered_length, gathered_at, past_none, past_within}
 use Rattle.thawing.specs.Message.{body_bytes, strict_before}
 use Rattle.thawing.proofs.Copy.{Standing, standing_chunk, copy_start}
 
@@ -67,24 +67,24 @@ module _ (form : Form) (s : List ℕ) where
     each : (i : ℕ) → i < len → There from i x
     each i h = there len from x (omega arith) (w (omega arith)) i (omega arith)
 
-    pub standing-gathered : gathered form s from len ≡ x
-    standing-gathered =
-        ext_get_or 0 (gathered form s from len) x (gathered-length form s from len ∙ long)
-        (λ i h. let k : i < len = omega (arith, h, gathered-length form s from len) in gathered-at form s from len i k ∙ (each i k).is)
+    pub standing_gathered : gathered form s from len ≡ x
+    standing_gathered =
+        ext_get_or 0 (gathered form s from len) x (gathered_length form s from len ∙ long)
+        (λ i h. let k : i < len = omega (arith, h, gathered_length form s from len) in gathered_at form s from len i k ∙ (each i k).is)
 
-    pub standing-judged : judged_at form s from len ≡ accepting true x
+    pub standing_judged : judged_at form s from len ≡ accepting true x
     unfolding judged_at
-    standing-judged =
+    standing_judged =
         by_lt len 1
-        (λ none. rw (past-none form s from len none) (ap (accepting true) standing-gathered))
-        (λ some. rw (past-within form s from len some (each (len - 1) (omega arith)).inside) (ap (accepting true) standing-gathered))
+        (λ none. rw (past_none form s from len none) (ap (accepting true) standing_gathered))
+        (λ some. rw (past_within form s from len some (each (len - 1) (omega arith)).inside) (ap (accepting true) standing_gathered))
 
   module _ (from len : ℕ) (long : len ≡ length (body_bytes (body_at form s (length s) (full form) from))) where
-    pub body-gathered : gathered form s from len ≡ body_bytes (body_at form s (length s) (full form) from)
-    body-gathered = standing-gathered from len (body_bytes (body_at form s (length s) (full form) from)) long (copy_start form s [] 0 from).stands
+    pub body_gathered : gathered form s from len ≡ body_bytes (body_at form s (length s) (full form) from)
+    body_gathered = standing_gathered from len (body_bytes (body_at form s (length s) (full form) from)) long (copy_start form s [] 0 from).stands
 
-    pub body-judged : judged_at form s from len ≡ accepting true (body_bytes (body_at form s (length s) (full form) from))
-    body-judged = standing-judged from len (body_bytes (body_at form s (length s) (full form) from)) long (copy_start form s [] 0 from).stands
+    pub body_judged : judged_at form s from len ≡ accepting true (body_bytes (body_at form s (length s) (full form) from))
+    body_judged = standing_judged from len (body_bytes (body_at form s (length s) (full form) from)) long (copy_start form s [] 0 from).stands
 
 -- What judging says of a datagram is said of its message.
 read_refused : (a : Answer Packet) (e : Extent) (k : ℕ) → ◌≡◌ {A = Answer (Unit {0})} (refused k) (onward a (λ p. given tt)) → refused k ≡ onward a (λ p. given e)
@@ -96,8 +96,8 @@ read_given (given p) e h = refl
 read_given (refused j) e h = not_refused h
 
 module _ (d : List ℕ) (next : ℕ) where
-  pub apart-refused : (k : ℕ) → refused k ≡ accepting true d → refused k ≡ strict_before d next
-  apart-refused k h = read_refused (reading true d) (record { len = length d; next = next }) k h
+  pub apart_refused : (k : ℕ) → refused k ≡ accepting true d → refused k ≡ strict_before d next
+  apart_refused k h = read_refused (reading true d) (record { len = length d; next = next }) k h
 
-  pub apart-given : (len : ℕ) → len ≡ length d → given tt ≡ accepting true d → given (record { len = len; next = next }) ≡ strict_before d next
-  apart-given len e h = rw e (read_given (reading true d) (record { len = length d; next = next }) h)
+  pub apart_given : (len : ℕ) → len ≡ length d → given tt ≡ accepting true d → given (record { len = len; next = next }) ≡ strict_before d next
+  apart_given len e h = rw e (read_given (reading true d) (record { len = length d; next = next }) h)

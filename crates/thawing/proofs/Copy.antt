@@ -14,7 +14,7 @@ use Rattle.stream.specs.Stream.{full, head_size, chunk_of, chunk_count, chunks_o
 use Rattle.stream.specs.Messages.{Body, body_at, end_of_chunk}
 use Rattle.stream.proofs.Sound.{Stands, body_sound, full_some}
 use Rattle.stream.proofs.Complete.{Chunked, chunk_complete, chunks_first}
-use Rattle.stream.proofs.Chunks.{next-rest, next-length}
+use Rattle.stream.proofs.Chunks.{next_rest, next_length}
 use Rattle.thawing.specs.Message.{body_bytes}
 
 -- The chunks of these bytes stand at a position.
@@ -57,27 +57,27 @@ module _ (form : Form) (s d old : List ℕ) (to : ℕ) (new : List ℕ) (at done
   copy_done h = putting_end w.put (drop_of_length-le d h)
 
   module _ (n : ℕ) (h : done < length d) (least : n ≡ min (full form) (length d - done)) where
-    pub copy-chunk : Chunked form s at (take (full form) (drop done d)) (chunks_of form (chunk_count form (length (drop (full form) (drop done d)))) (drop (full form) (drop done d)) ++ (w.stands h).rest)
-    copy-chunk = standing_chunk form s at (drop done d) (w.stands h) (rw length-drop (omega arith))
+    pub copy_chunk : Chunked form s at (take (full form) (drop done d)) (chunks_of form (chunk_count form (length (drop (full form) (drop done d)))) (drop (full form) (drop done d)) ++ (w.stands h).rest)
+    copy_chunk = standing_chunk form s at (drop done d) (w.stands h) (rw length-drop (omega arith))
 
-    pub copy-part : part s (at + head_size form) n ≡ take (full form) (drop done d)
-    copy-part = ap (part s (at + head_size form)) (sym (next-length form d done n least)) ∙ copy-chunk.bytes
+    pub copy_part : part s (at + head_size form) n ≡ take (full form) (drop done d)
+    copy_part = ap (part s (at + head_size form)) (sym (next_length form d done n least)) ∙ copy_chunk.bytes
 
-    pub copy-inside : end_of_chunk form at n ≤ length s
-    copy-inside = subst (λ (k : ℕ). end_of_chunk form at k ≤ length s) (next-length form d done n least) copy-chunk.inside
+    pub copy_inside : end_of_chunk form at n ≤ length s
+    copy_inside = subst (λ (k : ℕ). end_of_chunk form at k ≤ length s) (next_length form d done n least) copy_chunk.inside
 
-    pub copy-turn : (r : ℕ) (newer : List ℕ) → Puts new next (take (full form) (drop done d)) r newer → CopyWalk form s d old to newer (end_of_chunk form at n) (done + n) r
-    copy-turn r newer p =
+    pub copy_turn : (r : ℕ) (newer : List ℕ) → Puts new next (take (full form) (drop done d)) r newer → CopyWalk form s d old to newer (end_of_chunk form at n) (done + n) r
+    copy_turn r newer p =
         let c : List ℕ = take (full form) (drop done d) in
         let e : drop done d ≡ c ++ drop (done + n) d =
-        sym (take-append-drop (full form) (drop done d)) ∙ ap (λ (l : List ℕ). c ++ l) (sym (next-rest form d done n least)) in
+        sym (take-append-drop (full form) (drop done d)) ∙ ap (λ (l : List ℕ). c ++ l) (sym (next_rest form d done n least)) in
         record {
           put = putting_turn w.put e p;
           inside = omega arith;
           stands = λ l. record {
             rest = (w.stands h).rest;
-            inside = copy-inside;
-            bytes = ap (λ (k : ℕ). drop (end_of_chunk form at k) s) (sym (next-length form d done n least)) ∙ (copy-chunk.after
-                ∙ ap (λ (y : List ℕ). chunks_of form (chunk_count form (length y)) y ++ (w.stands h).rest) (sym (next-rest form d done n least)));
+            inside = copy_inside;
+            bytes = ap (λ (k : ℕ). drop (end_of_chunk form at k) s) (sym (next_length form d done n least)) ∙ (copy_chunk.after
+                ∙ ap (λ (y : List ℕ). chunks_of form (chunk_count form (length y)) y ++ (w.stands h).rest) (sym (next_rest form d done n least)));
           };
         }

@@ -18,7 +18,7 @@ use Rattle.stream.specs.Answers.{Tally, tally}
 use Rattle.stream.proofs.From.{from_end, from_more, from_bad}
 use Rattle.thawing.specs.Message.{strict_at}
 use Rattle.thawing.specs.Thawing.{all_strict, strict, chunks_in, Counts, counts_of, strict_from}
-use Rattle.thawing.proofs.Accepting.{Accepted, bad-datagram}
+use Rattle.thawing.proofs.Accepting.{Accepted, bad_datagram}
 
 -- One strict datagram before others.
 strict_by : (m : Frozen) (p : Packet) (l : List Frozen) (a : Answer (Unit {0})) → onward a (λ _. given (m ∷ l)) ≡ onward (onward a (λ _. given l)) (λ r. given (m ∷ r))
@@ -63,31 +63,31 @@ module _ (form : Form) (s : List ℕ) where
     pub chunked : chunks ≤ at
     pub whole : strict_from form other s 0 ≡ plus_counts count bytes chunks (strict_from form other s at)
 
-  pub strict-start : (other : Form) → StrictWalk other 0 0 0 0
-  strict-start other = record { few = omega arith; short = omega arith; chunked = omega arith; whole = counts_none (strict_from form other s 0) }
+  pub strict_start : (other : Form) → StrictWalk other 0 0 0 0
+  strict_start other = record { few = omega arith; short = omega arith; chunked = omega arith; whole = counts_none (strict_from form other s 0) }
 
   module _ (other : Form) (count bytes chunks at : ℕ) (w : StrictWalk other count bytes chunks at) where
-    pub strict-ends : length s ≤ at → given (record { count = count; bytes = bytes; chunks = chunks }) ≡ strict_from form other s 0
+    pub strict_ends : length s ≤ at → given (record { count = count; bytes = bytes; chunks = chunks }) ≡ strict_from form other s 0
     unfolding strict
-    strict-ends h =
+    strict_ends h =
         sym (w.whole ∙ (ap (λ (a : Answer (List Frozen)). plus_counts count bytes chunks (counts_of other (onward a strict))) (from_end form s at h)
         ∙ counts_are (count + 0) (bytes + 0) (chunks + 0) count bytes chunks (add-zero count) (add-zero bytes) (add-zero chunks)))
 
-    pub strict-stops : (k : ℕ) → onward (messages_from form s at) strict ≡ refused k → refused k ≡ strict_from form other s 0
-    strict-stops k e = sym (w.whole ∙ ap (λ (a : Answer (List Frozen)). plus_counts count bytes chunks (counts_of other a)) e)
+    pub strict_stops : (k : ℕ) → onward (messages_from form s at) strict ≡ refused k → refused k ≡ strict_from form other s 0
+    strict_stops k e = sym (w.whole ∙ ap (λ (a : Answer (List Frozen)). plus_counts count bytes chunks (counts_of other a)) e)
 
     module _ (len next : ℕ) (h : at < length s) (o : Accepted form s at len next) where
-      pub strict-room : at + len < next
-      strict-room = omega (arith, o.whole.stands.room, o.whole.length_is, o.whole.next-is)
+      pub strict_room : at + len < next
+      strict_room = omega (arith, o.whole.stands.room, o.whole.length_is, o.whole.next-is)
 
-      pub strict-turn : (n : ℕ) → n ≡ chunk_count other len → StrictWalk other (count + 1) (bytes + len) (chunks + n) next
-      strict-turn n e =
+      pub strict_turn : (n : ℕ) → n ≡ chunk_count other len → StrictWalk other (count + 1) (bytes + len) (chunks + n) next
+      strict_turn n e =
           let m : Found = o.whole.found in
           let d : List ℕ = m.message.datagram in
           record {
-            few = omega (arith, w.few, strict-room);
-            short = omega (arith, w.short, strict-room);
-            chunked = omega (arith, w.chunked, strict-room, few_chunks other len);
+            few = omega (arith, w.few, strict_room);
+            short = omega (arith, w.short, strict_room);
+            chunked = omega (arith, w.chunked, strict_room, few_chunks other len);
             whole = w.whole
                 ∙ (ap (λ (a : Answer (List Frozen)). plus_counts count bytes chunks (counts_of other (onward a strict))) (from_more form s at m h o.whole.is)
                 ∙ (ap (λ (a : Answer (List Frozen)). plus_counts count bytes chunks (counts_of other a)) (strict_more m.message o.packet o.reads (messages_from form s m.next))
@@ -98,25 +98,25 @@ module _ (form : Form) (s : List ℕ) where
           }
 
   -- Where the stream is refused from a position on, it is for that.
-  tally-refused : (k : ℕ) (a : Answer (List Frozen)) → refused k ≡ tally a → a ≡ refused k
-  tally-refused k (given l) e = not_refused (sym e)
-  tally-refused k (refused j) e = ap refused (same_refused (sym e))
+  tally_refused : (k : ℕ) (a : Answer (List Frozen)) → refused k ≡ tally a → a ≡ refused k
+  tally_refused k (given l) e = not_refused (sym e)
+  tally_refused k (refused j) e = ap refused (same_refused (sym e))
 
-  pub refused-stream : (at k : ℕ) → refused k ≡ tally (messages_from form s at) → onward (messages_from form s at) strict ≡ refused k
-  refused-stream at k e = rw (tally-refused k (messages_from form s at) e) refl
+  pub refused_stream : (at k : ℕ) → refused k ≡ tally (messages_from form s at) → onward (messages_from form s at) strict ≡ refused k
+  refused_stream at k e = rw (tally_refused k (messages_from form s at) e) refl
 
   -- Else the datagram decides.
-  first-bad : (m : Frozen) (k : ℕ) → reading true m.datagram ≡ refused k → (a : Answer (List Frozen)) (t : Tally) → given t ≡ tally (onward a (λ l. given (m ∷ l))) → onward (onward a (λ l. given (m ∷ l))) strict ≡ refused k
+  first_bad : (m : Frozen) (k : ℕ) → reading true m.datagram ≡ refused k → (a : Answer (List Frozen)) (t : Tally) → given t ≡ tally (onward a (λ l. given (m ∷ l))) → onward (onward a (λ l. given (m ∷ l))) strict ≡ refused k
   unfolding strict
-  first-bad m k r (given l) t e = rw r refl
-  first-bad m k r (refused j) t e = not_refused e
+  first_bad m k r (given l) t e = rw r refl
+  first_bad m k r (refused j) t e = not_refused e
 
-  refused-by : (at k : ℕ) (f : Answer Found) → message_at form s at ≡ f → at < length s → strict_at form s at ≡ refused k → (t : Tally) → given t ≡ tally (messages_from form s at) → onward (messages_from form s at) strict ≡ refused k
-  refused-by at k (given m) q h e t g =
+  refused_by : (at k : ℕ) (f : Answer Found) → message_at form s at ≡ f → at < length s → strict_at form s at ≡ refused k → (t : Tally) → given t ≡ tally (messages_from form s at) → onward (messages_from form s at) strict ≡ refused k
+  refused_by at k (given m) q h e t g =
       let n = from_more form s at m h q in
       ap (λ (a : Answer (List Frozen)). onward a strict) n
-      ∙ first-bad m.message k (bad-datagram form s at m k q e) (messages_from form s m.next) t (g ∙ ap tally n)
-  refused-by at k (refused j) q h e t g = not_refused (g ∙ ap tally (from_bad form s at j h q))
+      ∙ first_bad m.message k (bad_datagram form s at m k q e) (messages_from form s m.next) t (g ∙ ap tally n)
+  refused_by at k (refused j) q h e t g = not_refused (g ∙ ap tally (from_bad form s at j h q))
 
-  pub refused-datagram : (at k : ℕ) → at < length s → strict_at form s at ≡ refused k → (t : Tally) → given t ≡ tally (messages_from form s at) → onward (messages_from form s at) strict ≡ refused k
-  refused-datagram at k h e t g = refused-by at k (message_at form s at) refl h e t g
+  pub refused_datagram : (at k : ℕ) → at < length s → strict_at form s at ≡ refused k → (t : Tally) → given t ≡ tally (messages_from form s at) → onward (messages_from form s at) strict ≡ refused k
+  refused_datagram at k h e t g = refused_by at k (message_at form s at) refl h e t g

@@ -42,8 +42,8 @@ module _ (form : Form) (s : List ℕ) where
     pub room : to + length (datagrams_of rest) ≤ length oldOut
     pub short : to ≤ at
 
-  pub list-start : (oldList oldOut : List ℕ) (g : Listing form s (length oldList) (length oldOut)) → ListWalk g.messages oldList oldOut oldList oldOut 0 0 0
-  list-start oldList oldOut g =
+  pub list_start : (oldList oldOut : List ℕ) (g : Listing form s (length oldList) (length oldOut)) → ListWalk g.messages oldList oldOut oldList oldOut 0 0 0
+  list_start oldList oldOut g =
       record {
         rest = g.messages;
         left = left_start form s g.messages g.are;
@@ -55,12 +55,12 @@ module _ (form : Form) (s : List ℕ) where
       }
 
   module _ (l : List Frozen) (oldList oldOut list out : List ℕ) (at place to : ℕ) (w : ListWalk l oldList oldOut list out at place to) where
-    pub list-first : at < length s → First form s at w.rest
-    list-first h = left_first form s at w.rest w.left h
+    pub list_first : at < length s → First form s at w.rest
+    list_first h = left_first form s at w.rest w.left h
 
-    pub list-ends : length s ≤ at → 3 * length l ≤ length oldList → length (datagrams_of l) ≤ length oldOut
+    pub list_ends : length s ≤ at → 3 * length l ≤ length oldList → length (datagrams_of l) ≤ length oldOut
         → (list ≡ sets oldList 0 (entries form 0 0 l)) × (out ≡ sets oldOut 0 (datagrams_of l))
-    list-ends h a b =
+    list_ends h a b =
         let z : w.rest ≡ [] = left_none form s at w.rest w.left h in (
           (puts_whole (putting_end w.listed (ap (entries form at to) z)) (omega (arith, entries_length form 0 0 l))).out,
           (puts_whole (putting_end w.copied (ap datagrams_of z)) (omega arith)).out,
@@ -68,7 +68,7 @@ module _ (form : Form) (s : List ℕ) where
 
     module _ (h : at < length s) where
       abbrev pub first : First form s at w.rest
-      first = list-first h
+      first = list_first h
 
       counts : length (datagrams_of w.rest) ≡ length first.message.datagram + length (datagrams_of first.others)
       counts = ap (λ (r : List Frozen). length (datagrams_of r)) first.is ∙ length-append first.message.datagram (datagrams_of first.others)
@@ -76,11 +76,11 @@ module _ (form : Form) (s : List ℕ) where
       many : length w.rest ≡ suc (length first.others)
       many = ap length first.is
 
-      pub list-places : place + 3 ≤ length list
-      list-places = omega (arith, w.places, many, w.listed.kept)
+      pub list_places : place + 3 ≤ length list
+      list_places = omega (arith, w.places, many, w.listed.kept)
 
-      pub list-room : to + length first.message.datagram ≤ length out
-      list-room = omega (arith, w.room, counts, w.copied.kept)
+      pub list_room : to + length first.message.datagram ≤ length out
+      list_room = omega (arith, w.room, counts, w.copied.kept)
 
       -- A datagram has fewer bytes than its message.
       shorter : length first.message.datagram < length (message_of form first.message)
@@ -88,9 +88,9 @@ module _ (form : Form) (s : List ℕ) where
           let k = on_given (Stands form s at) (message_at form s at) (record { message = first.message; next = at + length (message_of form first.message) }) (message_sound form s at) first.found in
           omega (arith, k.room)
 
-      pub list-turn : (len next : ℕ) (newOut : List ℕ) → Took form s at w.rest first out to list-room len next newOut
+      pub list_turn : (len next : ℕ) (newOut : List ℕ) → Took form s at w.rest first out to list_room len next newOut
           → ListWalk l oldList oldOut (set (set (set list place (at + 1)) (place + 1) to) (place + 2) len) newOut next (place + 3) (to + len)
-      list-turn len next newOut t =
+      list_turn len next newOut t =
           let d : List ℕ = first.message.datagram in
           let e : entries form at to w.rest ≡ ((at + 1) ∷ to ∷ len ∷ []) ++ entries form next (to + len) first.others =
           ap (entries form at to) first.is
@@ -99,7 +99,7 @@ module _ (form : Form) (s : List ℕ) where
           record {
             rest = first.others;
             left = rw t.next-is first.left;
-            listed = putting_turn w.listed e (whole_puts (put_three list place (at + 1) to len) list-places);
+            listed = putting_turn w.listed e (whole_puts (put_three list place (at + 1) to len) list_places);
             copied = putting_turn w.copied (ap datagrams_of first.is) t.put;
             places = omega (arith, w.places, many);
             room = omega (arith, w.room, counts, t.len_is);
@@ -112,15 +112,15 @@ module _ (form : Form) (s : List ℕ) where
         pub onwards : at < next
         pub walk : ListWalk l oldList oldOut (set (set (set list place (at + 1)) (place + 1) to) (place + 2) len) newOut next (place + 3) (to + len)
 
-      pub list-next : (r : Step) (len next : ℕ) (newOut : List ℕ) → r ≡ Message len next → NextMessage form s at out to r newOut → Turned len next newOut
-      list-next r len next newOut e n =
-          let t = taken form s at w.rest first out to list-room len next newOut (rw e at n) in
+      pub list_next : (r : Step) (len next : ℕ) (newOut : List ℕ) → r ≡ Message len next → NextMessage form s at out to r newOut → Turned len next newOut
+      list_next r len next newOut e n =
+          let t = taken form s at w.rest first out to list_room len next newOut (rw e at n) in
           record {
             short = omega (arith, w.short, shorter, t.len_is, first.left.inside);
             onwards = omega (arith, t.next-is, message_some form first.message);
-            walk = list-turn len next newOut t;
+            walk = list_turn len next newOut t;
           }
 
       -- The step isn't refused.
       pub list-some {ℓ} : {C : Type ℓ} (r : Step) (newOut : List ℕ) (k : ℕ) → NextMessage form s at out to r newOut → step_read r ≡ refused k → C
-      list-some r newOut k n e = never-refused form s at w.rest first out to list-room r newOut k n e
+      list-some r newOut k n e = never-refused form s at w.rest first out to list_room r newOut k n e

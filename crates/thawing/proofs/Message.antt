@@ -35,33 +35,33 @@ sized_bytes peer (given b) =
 sized_bytes peer (refused k) = tt
 
 module _ (form : Form) (s : List ℕ) (at : ℕ) where
-  message-bytes : Given (λ m. body_bytes (body_at form s (length s) (full form) (at + 19)) ≡ m.message.datagram) (message_at form s at)
+  message_bytes : Given (λ m. body_bytes (body_at form s (length s) (full form) (at + 19)) ≡ m.message.datagram) (message_at form s at)
   unfolding message_at
-  message-bytes =
+  message_bytes =
       let G : Answer Found → Type 0 = Given (λ m. body_bytes (body_at form s (length s) (full form) (at + 19)) ≡ m.message.datagram) in
       on_eq G (get_or s at 0) 1
       (λ e. on_lt G (length s) (at + 19) (λ l. tt) (λ l. sized_bytes (part s (at + 1) 18) (body_at form s (length s) (full form) (at + 19))))
       (λ e. tt)
 
   -- No message.
-  pub next-refused : (old : List ℕ) (to : ℕ) (r : Step) (k : ℕ) → message_at form s at ≡ refused k → step_read r ≡ refused k → NextMessage form s at old to r old
-  next-refused old to r k e h = record { answer = h ∙ rw e refl; output = rw e refl }
+  pub next_refused : (old : List ℕ) (to : ℕ) (r : Step) (k : ℕ) → message_at form s at ≡ refused k → step_read r ≡ refused k → NextMessage form s at old to r old
+  next_refused old to r k e h = record { answer = h ∙ rw e refl; output = rw e refl }
 
   module _ (len next : ℕ) (o : Whole form s at len next) where
-    pub whole-bytes : body_bytes (body_at form s (length s) (full form) (at + 19)) ≡ o.found.message.datagram
-    whole-bytes = on_given (λ m. body_bytes (body_at form s (length s) (full form) (at + 19)) ≡ m.message.datagram) (message_at form s at) o.found message-bytes o.is
+    pub whole_bytes : body_bytes (body_at form s (length s) (full form) (at + 19)) ≡ o.found.message.datagram
+    whole_bytes = on_given (λ m. body_bytes (body_at form s (length s) (full form) (at + 19)) ≡ m.message.datagram) (message_at form s at) o.found message_bytes o.is
 
     pub whole_length : len ≡ length (body_bytes (body_at form s (length s) (full form) (at + 19)))
-    whole_length = sym (ap length whole-bytes ∙ o.length_is)
+    whole_length = sym (ap length whole_bytes ∙ o.length_is)
 
     -- Its kind and its peer lie in the stream.
-    pub whole-inside : at + 19 ≤ length s
-    whole-inside =
+    pub whole_inside : at + 19 ≤ length s
+    whole_inside =
         let m : Found = o.found in
         (parts form s at m.message (drop m.next s) (omega (arith, o.stands.room, o.stands.inside)) o.stands.sized.peer o.stands.bytes).inside
 
-    pub whole-extent : extent_of o.found ≡ record { len = len; next = next }
-    whole-extent =
+    pub whole_extent : extent_of o.found ≡ record { len = len; next = next }
+    whole_extent =
         ap (λ (n : ℕ). record { len = n; next = o.found.next }) o.length_is ∙ ap (λ (n : ℕ). record { len = len; next = n }) o.next-is
 
     module _ (old : List ℕ) (to : ℕ) where
@@ -70,17 +70,17 @@ module _ (form : Form) (s : List ℕ) (at : ℕ) where
       told r new e p = record { answer = rw o.is e; output = rw o.is p }
 
       -- No room for the datagram at the place.
-      pub next-no-room : length old < to + len → NextMessage form s at old to (Refused NoRoom) old
-      next-no-room h =
+      pub next_no_room : length old < to + len → NextMessage form s at old to (Refused NoRoom) old
+      next_no_room h =
           let d : List ℕ = o.found.message.datagram in
           let n = no_place old d to (extent_of o.found) (omega (arith, o.length_is)) in
           told (Refused NoRoom) old n.0 n.1
 
       -- The datagram at the place.
-      pub next-copied : (r : ℕ) (new : List ℕ) → to + len ≤ length old → Puts old to (body_bytes (body_at form s (length s) (full form) (at + 19))) r new → NextMessage form s at old to (Message len next) new
-      next-copied r new h p =
-          let n = puts_placed (extent_of o.found) (rw whole-bytes at p) (omega (arith, o.length_is)) in
-          told (Message len next) new (ap given (sym whole-extent) ∙ n.0) n.1
+      pub next_copied : (r : ℕ) (new : List ℕ) → to + len ≤ length old → Puts old to (body_bytes (body_at form s (length s) (full form) (at + 19))) r new → NextMessage form s at old to (Message len next) new
+      next_copied r new h p =
+          let n = puts_placed (extent_of o.found) (rw whole_bytes at p) (omega (arith, o.length_is)) in
+          told (Message len next) new (ap given (sym whole_extent) ∙ n.0) n.1
 
 same_extent : (a b : Extent) → ◌≡◌ {A = Answer Extent} (given a) (given b) → a ≡ b
 same_extent a b e = cc
@@ -96,7 +96,7 @@ module _ (form : Form) (s : List ℕ) (at : ℕ) (rest : List Frozen) (f : First
   -- What was taken.
   pub record Took (len next : ℕ) (new : List ℕ) : Type 0 where
     pub len_is : len ≡ length f.message.datagram
-    pub next-is : next ≡ at + length (message_of form f.message)
+    pub next_is : next ≡ at + length (message_of form f.message)
     pub put : Puts old to f.message.datagram (to + len) new
     pub out : new ≡ sets old to f.message.datagram
 
@@ -109,7 +109,7 @@ module _ (form : Form) (s : List ℕ) (at : ℕ) (rest : List Frozen) (f : First
       n.output ∙ (ap (λ (x : Answer Extent). after x to (found_bytes (message_at form s at)) old) took ∙ ap (λ (x : Answer Found). sets old to (found_bytes x)) f.found) in
       record {
         len_is = l;
-        next-is = ap (λ (x : Extent). x.next) k;
+        next_is = ap (λ (x : Extent). x.next) k;
         put = whole_puts (record { next = ap (λ (i : ℕ). to + i) l; out = o }) room;
         out = o;
       }

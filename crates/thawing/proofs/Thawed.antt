@@ -61,35 +61,35 @@ listing form s count bytes chunks places room c p h =
     record { messages = c.messages; are = thawed_of form s c.messages c.are; places_for = omega (arith, c.count_is); room_for = omega (arith, c.bytes_is) }
 
 module _ (form : Form) (s oldList oldOut : List ℕ) where
-  thawing-on : (l : List Frozen) → thawed_strictly form s ≡ given l → thawing form (length oldList) (length oldOut) s ≡ listed (length oldList) (length oldOut) l
+  thawing_on : (l : List Frozen) → thawed_strictly form s ≡ given l → thawing form (length oldList) (length oldOut) s ≡ listed (length oldList) (length oldOut) l
   unfolding thawing
-  thawing-on l e = rw e refl
+  thawing_on l e = rw e refl
 
   told : (x : Answer ℕ) (r : Written) (newList newOut : List ℕ) → thawing form (length oldList) (length oldOut) s ≡ x → written r ≡ x
       → newList ≡ after x 0 (entries form 0 0 (messages_in (thawed form s))) oldList → newOut ≡ after x 0 (datagrams_of (messages_in (thawed form s))) oldOut
       → Thaws form s oldList oldOut r newList newOut
   told x r newList newOut t a b c = record { answer = rw t a; list = rw t b; output = rw t c }
 
-  pub thaw-refused : (r : Written) (k : ℕ) → thawed_strictly form s ≡ refused k → written r ≡ refused k → Thaws form s oldList oldOut r oldList oldOut
+  pub thaw_refused : (r : Written) (k : ℕ) → thawed_strictly form s ≡ refused k → written r ≡ refused k → Thaws form s oldList oldOut r oldList oldOut
   unfolding thawing
-  thaw-refused r k e h = told (refused k) r oldList oldOut (rw e refl) h refl refl
+  thaw_refused r k e h = told (refused k) r oldList oldOut (rw e refl) h refl refl
 
   module _ (count bytes chunks : ℕ) (c : Counted form form s count bytes chunks) where
-    pub thaw-no-places : length oldList < 3 * count → Thaws form s oldList oldOut (Refused NoRoom) oldList oldOut
+    pub thaw_no_places : length oldList < 3 * count → Thaws form s oldList oldOut (Refused NoRoom) oldList oldOut
     unfolding listed
-    thaw-no-places h =
+    thaw_no_places h =
         told (refused 12) (Refused NoRoom) oldList oldOut
-        (thawing-on c.messages c.are ∙ rw (lt-ltb (length oldList) (3 * length c.messages) (omega (arith, c.count_is))) refl) refl refl refl
+        (thawing_on c.messages c.are ∙ rw (lt-ltb (length oldList) (3 * length c.messages) (omega (arith, c.count_is))) refl) refl refl refl
 
-    pub thaw-no-room : 3 * count ≤ length oldList → length oldOut < bytes → Thaws form s oldList oldOut (Refused NoRoom) oldList oldOut
+    pub thaw_no_room : 3 * count ≤ length oldList → length oldOut < bytes → Thaws form s oldList oldOut (Refused NoRoom) oldList oldOut
     unfolding listed
-    thaw-no-room p h =
+    thaw_no_room p h =
         told (refused 12) (Refused NoRoom) oldList oldOut
-        (thawing-on c.messages c.are ∙ rw (le-ltb (length oldList) (3 * length c.messages) (omega (arith, c.count_is)), lt-ltb (length oldOut) (length (datagrams_of c.messages)) (omega (arith, c.bytes_is))) refl) refl refl refl
+        (thawing_on c.messages c.are ∙ rw (le-ltb (length oldList) (3 * length c.messages) (omega (arith, c.count_is)), lt-ltb (length oldOut) (length (datagrams_of c.messages)) (omega (arith, c.bytes_is))) refl) refl refl refl
 
-    pub thaw-done : (newList newOut : List ℕ) → 3 * count ≤ length oldList → bytes ≤ length oldOut → newList ≡ sets oldList 0 (entries form 0 0 (messages_in (thawed form s))) → newOut ≡ sets oldOut 0 (datagrams_of (messages_in (thawed form s)))
+    pub thaw_done : (newList newOut : List ℕ) → 3 * count ≤ length oldList → bytes ≤ length oldOut → newList ≡ sets oldList 0 (entries form 0 0 (messages_in (thawed form s))) → newOut ≡ sets oldOut 0 (datagrams_of (messages_in (thawed form s)))
         → Thaws form s oldList oldOut (Length count) newList newOut
     unfolding listed
-    thaw-done newList newOut p h a b =
+    thaw_done newList newOut p h a b =
         told (given count) (Length count) newList newOut
-        (thawing-on c.messages c.are ∙ rw (le-ltb (length oldList) (3 * length c.messages) (omega (arith, c.count_is)), le-ltb (length oldOut) (length (datagrams_of c.messages)) (omega (arith, c.bytes_is))) (ap given c.count_is)) refl a b
+        (thawing_on c.messages c.are ∙ rw (le-ltb (length oldList) (3 * length c.messages) (omega (arith, c.count_is)), le-ltb (length oldOut) (length (datagrams_of c.messages)) (omega (arith, c.bytes_is))) (ap given c.count_is)) refl a b

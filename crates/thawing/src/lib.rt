@@ -1,6 +1,7 @@
 // Messages out of a freeze stream: one after the other, or all of them with a list. A datagram's chunks lie apart in the stream, so
 // it is copied to a lent output.
 #![tactic(auto)]
+
 ghost use Rattle.std.specs.Prelude.{◌≡◌, ◌<◌, ◌≤◌, length};
 ghost use Rattle.std.proofs.lemmas.List.Edits.{sets};
 ghost use Rattle.packet.specs.Limits.{full_size};

@@ -56,14 +56,14 @@ full_four Old = omega arith
 full_four New = omega arith
 
 module _ (form : Form) (s : List ℕ) (at : ℕ) (f : Found) (w : Message form s (at + 5) f) where
-  message-parts : Parts form s (at + 5) f.message (drop f.next s)
-  message-parts = parts form s (at + 5) f.message (drop f.next s) (omega (arith, w.room, w.inside)) w.sized.peer w.bytes
+  message_parts : Parts form s (at + 5) f.message (drop f.next s)
+  message_parts = parts form s (at + 5) f.message (drop f.next s) (omega (arith, w.room, w.inside)) w.sized.peer w.bytes
 
-  pub peer-there : at + 6 + 18 ≤ length s
-  peer-there = omega (arith, message-parts.inside)
+  pub peer_there : at + 6 + 18 ≤ length s
+  peer_there = omega (arith, message_parts.inside)
 
-  pub peer-is : part s (at + 6) 18 ≡ f.message.peer
-  peer-is = let e : at + 5 + 1 ≡ at + 6 = omega arith in rw (← e) message-parts.peer
+  pub peer_is : part s (at + 6) 18 ≡ f.message.peer
+  peer_is = let e : at + 5 + 1 ≡ at + 6 = omega arith in rw (← e) message_parts.peer
 
   -- The bytes of the first chunk.
   abbrev front : List ℕ
@@ -83,15 +83,15 @@ module _ (form : Form) (s : List ℕ) (at : ℕ) (f : Found) (w : Message form s
       let e : at + 5 + 19 ≡ at + 24 = omega arith in
       let stands : drop (at + 24) s ≡ chunk_of form front ++ (more ++ (3 ∷ drop f.next s)) =
       ap (λ (n : ℕ). drop n s) (sym e)
-      ∙ (message-parts.chunks
+      ∙ (message_parts.chunks
       ∙ (ap (λ (l : List ℕ). l ++ (3 ∷ drop f.next s)) (chunks_first form d (omega (arith, w.sized.least)))
       ∙ append_assoc (chunk_of form front) more (3 ∷ drop f.next s))) in
       let k : Chunked form s (at + 24) front (more ++ (3 ∷ drop f.next s)) =
-      chunk_complete form s (at + 24) front (more ++ (3 ∷ drop f.next s)) (omega (arith, front_length, full_four form, w.sized.least)) (omega (arith, front_length)) (omega (arith, message-parts.inside)) stands in
+      chunk_complete form s (at + 24) front (more ++ (3 ∷ drop f.next s)) (omega (arith, front_length, full_four form, w.sized.least)) (omega (arith, front_length)) (omega (arith, message_parts.inside)) stands in
       record { inside = omega (arith, k.inside); bytes = k.bytes }
 
-  pub header-there : at + 24 + head_size form + 4 ≤ length s
-  header-there = omega (arith, first.inside, front_length, full_four form, w.sized.least)
+  pub header_there : at + 24 + head_size form + 4 ≤ length s
+  header_there = omega (arith, first.inside, front_length, full_four form, w.sized.least)
 
   pub header_is : head_in (part s (at + 24 + head_size form) 4) ≡ head_in f.message.datagram
   header_is =
@@ -120,8 +120,8 @@ header_read d p b e =
 
 -- The message that was measured, with what was read of it.
 module _ (form : Form) (s : List ℕ) (at : ℕ) where
-  pub none-arrives : (k : ℕ) → timed_at form s at ≡ refused k → ◌≡◌ {A = Beside Coming} (record { answer = refused k; value = no_arrival }) (beside no_arrival (arrival_at form s at))
-  none-arrives k e = rw e refl
+  pub none_arrives : (k : ℕ) → timed_at form s at ≡ refused k → ◌≡◌ {A = Beside Coming} (record { answer = refused k; value = no_arrival }) (beside no_arrival (arrival_at form s at))
+  none_arrives k e = rw e refl
 
   module _ (time len next : ℕ) (o : Measured form s at time len next) (raw : HeaderRaw) (is : raw ≡ head_in (part s (at + 24 + head_size form) 4)) (kind : MessageType) (tells : kind ≡ type_of (raw.ver_type_tkl / 16)) (peer : List ℕ) (stands : peer ≡ part s (at + 6) 18) where
     header : raw ≡ head_in o.found.timed.message.datagram
@@ -130,7 +130,7 @@ module _ (form : Form) (s : List ℕ) (at : ℕ) where
     same : arrival_of o.found.timed ≡ record { time = time; type = number_of_type kind; peer = peer; id = raw.message_id }
     unfolding arrival_of header_of
     same =
-        let p : peer ≡ o.found.timed.message.peer = stands ∙ (peer-is form s at o.stands.found o.stands.message ∙ ap (λ (x : TimedFound). x.timed.message.peer) (sym o.stands.value)) in
+        let p : peer ≡ o.found.timed.message.peer = stands ∙ (peer_is form s at o.stands.found o.stands.message ∙ ap (λ (x : TimedFound). x.timed.message.peer) (sym o.stands.value)) in
         rw (tells, p, ← o.time-is, header) refl
 
     pub arrives : ◌≡◌ {A = Beside Coming} (record { answer = given tt; value = record { arrival = record { time = time; type = number_of_type kind; peer = peer; id = raw.message_id }; next = next } }) (beside no_arrival (arrival_at form s at))

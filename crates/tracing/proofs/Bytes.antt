@@ -42,9 +42,9 @@ module _ (form : Form) (s : List ℕ) (small : Bytes s) where
   abbrev FoundBytes : Found → Type 0
   FoundBytes m = Bytes m.message.datagram
 
-  message-bytes : (at : ℕ) → Given FoundBytes (message_at form s at)
+  message_bytes : (at : ℕ) → Given FoundBytes (message_at form s at)
   unfolding message_at sized_body
-  message-bytes at =
+  message_bytes at =
       on_eq (Given FoundBytes) (get_or s at 0) 1
       (λ e. on_lt (Given FoundBytes) (length s) (at + 19) (λ l. tt)
       (λ l. given_onward BodyBytes FoundBytes (body_at form s (length s) (full form) (at + 19)) (sized_body (part s (at + 1) 18)) (body_bytes (length s) (full form) (at + 19))
@@ -54,14 +54,14 @@ module _ (form : Form) (s : List ℕ) (small : Bytes s) where
   abbrev TimedBytes : TimedFound → Type 0
   TimedBytes m = Bytes m.timed.message.datagram
 
-  timed-bytes : (at : ℕ) → Given TimedBytes (timed_at form s at)
+  timed_bytes : (at : ℕ) → Given TimedBytes (timed_at form s at)
   unfolding timed_at
-  timed-bytes at = on (Given TimedBytes) (is_time s at) (λ e. given_onward FoundBytes TimedBytes (message_at form s (at + 5)) _ (message-bytes (at + 5)) (λ m k. k)) (λ e. tt)
+  timed_bytes at = on (Given TimedBytes) (is_time s at) (λ e. given_onward FoundBytes TimedBytes (message_at form s (at + 5)) _ (message_bytes (at + 5)) (λ m k. k)) (λ e. tt)
 
-  pub traced-bytes : (fuel at : ℕ) → Given AllBytes (traced_at form s fuel at)
+  pub traced_bytes : (fuel at : ℕ) → Given AllBytes (traced_at form s fuel at)
   unfolding traced_at
-  traced-bytes zero at = on_lt (Given AllBytes) at (length s) (λ h. tt) (λ h. tt)
-  traced-bytes (suc fuel) at =
+  traced_bytes zero at = on_lt (Given AllBytes) at (length s) (λ h. tt) (λ h. tt)
+  traced_bytes (suc fuel) at =
       on_lt (Given AllBytes) at (length s)
-      (λ h. given_onward TimedBytes AllBytes (timed_at form s at) _ (timed-bytes at) (λ m k. given_onward AllBytes AllBytes (traced_at form s fuel m.next) _ (traced-bytes fuel m.next) (λ l r. (k, r))))
+      (λ h. given_onward TimedBytes AllBytes (timed_at form s at) _ (timed_bytes at) (λ m k. given_onward AllBytes AllBytes (traced_at form s fuel m.next) _ (traced_bytes fuel m.next) (λ l r. (k, r))))
       (λ h. tt)

@@ -17,8 +17,8 @@ use Rattle.stream.specs.Messages.{count_at}
 use Rattle.stream.proofs.Complete.{message_complete, first_chunk}
 use Rattle.tracing.specs.Trace.{Timed, AllTimed, time_of, trace_of}
 use Rattle.tracing.specs.TimedMessages.{form_of, timed_at, traced_at, traced}
-use Rattle.tracing.proofs.Times.{time-kind, time-read}
-use Rattle.tracing.proofs.Found.{of-kind, timed-given}
+use Rattle.tracing.proofs.Times.{time_kind, time_read}
+use Rattle.tracing.proofs.Found.{of_kind, timed_given}
 
 -- How many bytes a message takes with its time.
 abbrev pub timed_size : Form → Timed → ℕ
@@ -26,27 +26,27 @@ timed_size form m = 5 + length (message_of form m.message)
 
 -- A message with its time that stands at a position is found there, and what follows stands after it.
 module _ (form : Form) (s : List ℕ) (at : ℕ) (m : Timed) (rest : List ℕ) (h : at ≤ length s) (e : drop at s ≡ time_of m.time ++ (message_of form m.message ++ rest)) where
-  message-stands : drop (at + 5) s ≡ message_of form m.message ++ rest
-  message-stands = past s at (time_of m.time) (message_of form m.message ++ rest) e h
+  message_stands : drop (at + 5) s ≡ message_of form m.message ++ rest
+  message_stands = past s at (time_of m.time) (message_of form m.message ++ rest) e h
 
-  message-inside : at + 5 ≤ length s
-  message-inside = fits s at (time_of m.time) (message_of form m.message ++ rest) e h
+  message_inside : at + 5 ≤ length s
+  message_inside = fits s at (time_of m.time) (message_of form m.message ++ rest) e h
 
-  sum-five : at + 5 + length (message_of form m.message) ≡ at + timed_size form m
-  sum-five = omega arith
+  sum_five : at + 5 + length (message_of form m.message) ≡ at + timed_size form m
+  sum_five = omega arith
 
-  pub timed-complete : m.time < 4294967296 → Sized m.message → timed_at form s at ≡ given (record { timed = m; next = at + timed_size form m })
-  timed-complete small z =
+  pub timed_complete : m.time < 4294967296 → Sized m.message → timed_at form s at ≡ given (record { timed = m; next = at + timed_size form m })
+  timed_complete small z =
       let x : List ℕ = message_of form m.message in
-      timed-given form s at (of-kind s at (time-kind s at m.time (x ++ rest) h e) ∙ le-leb (at + 5) (length s) message-inside) _ (message_complete form s (at + 5) m.message rest message-inside z message-stands)
-      ∙ (ap (λ (t : ℕ). given (record { timed = record { time = t; message = m.message }; next = at + 5 + length x })) (time-read s at m.time (x ++ rest) h e small)
-      ∙ ap (λ (n : ℕ). given (record { timed = m; next = n })) sum-five)
+      timed_given form s at (of_kind s at (time_kind s at m.time (x ++ rest) h e) ∙ le-leb (at + 5) (length s) message_inside) _ (message_complete form s (at + 5) m.message rest message_inside z message_stands)
+      ∙ (ap (λ (t : ℕ). given (record { timed = record { time = t; message = m.message }; next = at + 5 + length x })) (time_read s at m.time (x ++ rest) h e small)
+      ∙ ap (λ (n : ℕ). given (record { timed = m; next = n })) sum_five)
 
-  pub timed-past : drop (at + timed_size form m) s ≡ rest
-  timed-past = ap (λ (n : ℕ). drop n s) (sym sum-five) ∙ past s (at + 5) (message_of form m.message) rest message-stands message-inside
+  pub timed_past : drop (at + timed_size form m) s ≡ rest
+  timed_past = ap (λ (n : ℕ). drop n s) (sym sum_five) ∙ past s (at + 5) (message_of form m.message) rest message_stands message_inside
 
-  pub timed-inside : at + timed_size form m ≤ length s
-  timed-inside = omega (arith, fits s (at + 5) (message_of form m.message) rest message-stands message-inside)
+  pub timed_inside : at + timed_size form m ≤ length s
+  timed_inside = omega (arith, fits s (at + 5) (message_of form m.message) rest message_stands message_inside)
 
 -- The messages of a trace from a position are found there.
 pub messages_complete : (form : Form) (s : List ℕ) (fuel at : ℕ) (l : List Timed) → length s ≤ at + fuel → at ≤ length s → AllTimed l → drop at s ≡ trace_of form l
@@ -54,12 +54,12 @@ pub messages_complete : (form : Form) (s : List ℕ) (fuel at : ℕ) (l : List T
 unfolding traced_at
 messages_complete form s zero at [] fuelled h z e = rw (le-ltb at (length s) (omega (arith, sym (length-drop at s) ∙ ap length e))) refl
 messages_complete form s (suc fuel) at [] fuelled h z e = rw (le-ltb at (length s) (omega (arith, sym (length-drop at s) ∙ ap length e))) refl
-messages_complete form s zero at (m ∷ l) fuelled h z e = absurd (omega (arith, timed-inside form s at m (trace_of form l) h e))
+messages_complete form s zero at (m ∷ l) fuelled h z e = absurd (omega (arith, timed_inside form s at m (trace_of form l) h e))
 messages_complete form s (suc fuel) at (m ∷ l) fuelled h z e =
-    let i = timed-inside form s at m (trace_of form l) h e in
-    let f = timed-complete form s at m (trace_of form l) h e z.0.0 z.0.1 in
+    let i = timed_inside form s at m (trace_of form l) h e in
+    let f = timed_complete form s at m (trace_of form l) h e z.0.0 z.0.1 in
     let r : traced_at form s fuel (at + timed_size form m) ≡ given l =
-    messages_complete form s fuel (at + timed_size form m) l (omega arith) i z.1 (timed-past form s at m (trace_of form l) h e) in
+    messages_complete form s fuel (at + timed_size form m) l (omega arith) i z.1 (timed_past form s at m (trace_of form l) h e) in
     rw (lt-ltb at (length s) (omega arith), f, r) refl
 
 -- A chunk of a form has a kind by which the form is found.

@@ -24,8 +24,8 @@ unfolding strictly
 strict_list v l e = strict_by v l (all_strict (messages_of v)) refl e
 
 module _ (s : List ℕ) where
-  pub traced-of : (l : List Timed) → traced_strictly s ≡ given l → traced s ≡ given l
-  traced-of l e = let o = onward_given (traced s) strictly l e in o.1 ∙ ap given (strict_list o.0 l o.2).same
+  pub traced_of : (l : List Timed) → traced_strictly s ≡ given l → traced s ≡ given l
+  traced_of l e = let o = onward_given (traced s) strictly l e in o.1 ∙ ap given (strict_list o.0 l o.2).same
 
   -- Messages that were counted.
   pub record Counted (n : ℕ) : Type 0 where

@@ -13,7 +13,7 @@ use Rattle.stream.specs.Stream.{Frozen, message_of, stream_of}
 use Rattle.stream.specs.Messages.{message_at, thawed}
 use Rattle.stream.proofs.Exact.{Only19, only_message}
 use Rattle.stream.proofs.From.{from_bad as stream-bad}
-use Rattle.stream.proofs.Walk.{message-none, bad-of}
+use Rattle.stream.proofs.Walk.{message_none, bad_of}
 use Rattle.tracing.specs.Trace.{Timed, AllTimed, time_of, trace_of}
 use Rattle.tracing.specs.TimedMessages.{form_of, is_time, timed_at, traced_at, traced}
 use Rattle.tracing.proofs.Found.{no_kind, no_time}
@@ -84,4 +84,4 @@ stream_no_trace form m l = untimed (stream_of form (m ∷ l)) (omega arith) (λ 
 pub trace_no_stream : (form other : Form) (m : Timed) (l : List Timed) → thawed other (trace_of form (m ∷ l)) ≡ refused 19
 trace_no_stream form other m l =
     let s : List ℕ = trace_of form (m ∷ l) in
-    stream-bad other s 0 19 (omega arith) (bad-of other s 0 19 (message-none other s 0 (λ e. omega arith)))
+    stream-bad other s 0 19 (omega arith) (bad_of other s 0 19 (message_none other s 0 (λ e. omega arith)))

@@ -21,20 +21,20 @@ module _ (s : List ℕ) (at : ℕ) where
   unfolding is_time
   no_kind e = rw (ne_eqb (get_or s at 0) 8 e) refl
 
-  pub of-kind : get_or s at 0 ≡ 8 → is_time s at ≡ leb (at + 5) (length s)
+  pub of_kind : get_or s at 0 ≡ 8 → is_time s at ≡ leb (at + 5) (length s)
   unfolding is_time
-  of-kind e = rw (eq-eqb (get_or s at 0) 8 e) refl
+  of_kind e = rw (eq-eqb (get_or s at 0) 8 e) refl
 
   -- The test of the four bytes that the code makes, by what is left of the trace.
-  pub by-what-is-left : get_or s at 0 ≡ 8 → at ≤ length s → leb 5 (length s - at) ≡ is_time s at
-  by-what-is-left e h =
+  pub by_what_is_left : get_or s at 0 ≡ 8 → at ≤ length s → leb 5 (length s - at) ≡ is_time s at
+  by_what_is_left e h =
       by_lt (length s) (at + 5)
-      (λ l. lt-leb 5 (length s - at) (omega arith) ∙ sym (of-kind e ∙ lt-leb (at + 5) (length s) l))
-      (λ l. le-leb 5 (length s - at) (omega arith) ∙ sym (of-kind e ∙ le-leb (at + 5) (length s) l))
+      (λ l. lt-leb 5 (length s - at) (omega arith) ∙ sym (of_kind e ∙ lt-leb (at + 5) (length s) l))
+      (λ l. le-leb 5 (length s - at) (omega arith) ∙ sym (of_kind e ∙ le-leb (at + 5) (length s) l))
 
-  pub time-there : is_time s at ≡ true → (get_or s at 0 ≡ 8) × (at + 5 ≤ length s)
+  pub time_there : is_time s at ≡ true → (get_or s at 0 ≡ 8) × (at + 5 ≤ length s)
   unfolding is_time
-  time-there e =
+  time_there e =
       let b = both_true (eqb (get_or s at 0) 8) (leb (at + 5) (length s)) e in
       (eqb-true (get_or s at 0) 8 b.0, leb-true (at + 5) (length s) b.1)
 
@@ -44,13 +44,13 @@ module _ (form : Form) (s : List ℕ) (at : ℕ) where
   no_time e = rw e refl
 
   module _ (time : is_time s at ≡ true) where
-    pub timed-given : (m : Found) → message_at form s (at + 5) ≡ given m → timed_at form s at ≡ given (timed_with (time_at s at) m)
+    pub timed_given : (m : Found) → message_at form s (at + 5) ≡ given m → timed_at form s at ≡ given (timed_with (time_at s at) m)
     unfolding timed_at
-    timed-given m e = rw (time, e) refl
+    timed_given m e = rw (time, e) refl
 
-    pub timed-refused : (k : ℕ) → message_at form s (at + 5) ≡ refused k → timed_at form s at ≡ refused k
+    pub timed_refused : (k : ℕ) → message_at form s (at + 5) ≡ refused k → timed_at form s at ≡ refused k
     unfolding timed_at
-    timed-refused k e = rw (time, e) refl
+    timed_refused k e = rw (time, e) refl
 
   -- A message with its time stands at a position.
   pub record Stands (m : TimedFound) : Type 0 where

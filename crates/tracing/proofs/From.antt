@@ -23,9 +23,9 @@ module _ (form : Form) (s : List ℕ) where
   unfolding traced_at
   at_more most at m h e = rw (lt-ltb at (length s) h, e) refl
 
-  at-bad : (most at k : ℕ) → at < length s → timed_at form s at ≡ refused k → traced_at form s (suc most) at ≡ refused k
+  at_bad : (most at k : ℕ) → at < length s → timed_at form s at ≡ refused k → traced_at form s (suc most) at ≡ refused k
   unfolding traced_at
-  at-bad most at k h e = rw (lt-ltb at (length s) h, e) refl
+  at_bad most at k h e = rw (lt-ltb at (length s) h, e) refl
 
   -- How many messages at most doesn't matter where they are no fewer than the bytes that are left.
   step : (a b at : ℕ) (f : Answer TimedFound) → timed_at form s at ≡ f → at < length s
@@ -33,7 +33,7 @@ module _ (form : Form) (s : List ℕ) where
   step a b at (given m) e l same =
       at_more a at m l e
       ∙ (ap (λ (x : Answer (List Timed)). onward x (λ r. given (m.timed ∷ r))) (same m.next (onwards form s at m e)) ∙ sym (at_more b at m l e))
-  step a b at (refused k) e l same = at-bad a at k l e ∙ sym (at-bad b at k l e)
+  step a b at (refused k) e l same = at_bad a at k l e ∙ sym (at_bad b at k l e)
 
   same : (a b at : ℕ) → length s ≤ at + a → length s ≤ at + b → traced_at form s a at ≡ traced_at form s b at
   same zero b at h i = at_end zero at (omega arith) ∙ sym (at_end b at (omega arith))
@@ -51,4 +51,4 @@ module _ (form : Form) (s : List ℕ) where
   from_more at m h e = same (length s) (suc (length s)) at (omega arith) (omega arith) ∙ at_more (length s) at m h e
 
   pub from_bad : (at k : ℕ) → at < length s → timed_at form s at ≡ refused k → traced_from form s at ≡ refused k
-  from_bad at k h e = same (length s) (suc (length s)) at (omega arith) (omega arith) ∙ at-bad (length s) at k h e
+  from_bad at k h e = same (length s) (suc (length s)) at (omega arith) (omega arith) ∙ at_bad (length s) at k h e

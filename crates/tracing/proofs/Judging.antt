@@ -15,12 +15,12 @@ use Rattle.stream.specs.declared.Form.{Form}
 use Rattle.stream.proofs.Walk.{Whole}
 use Rattle.thawing.specs.Message.{strict_at}
 use Rattle.thawing.specs.Thawing.{all_strict}
-use Rattle.thawing.proofs.Accepting.{Accepted, accepted, bad-datagram}
+use Rattle.thawing.proofs.Accepting.{Accepted, accepted, bad_datagram}
 use Rattle.tracing.specs.Trace.{Timed, messages_of}
 use Rattle.tracing.specs.TimedMessages.{is_time, time_at, TimedFound, timed_with, timed_at, traced_from}
 use Rattle.tracing.specs.Judging.{strictly, strict_timed_at, count_of}
 use Rattle.tracing.specs.Answers.{TimedExtent, timed_extent, whether}
-use Rattle.tracing.proofs.Found.{timed-given, Stands, stands}
+use Rattle.tracing.proofs.Found.{timed_given, Stands, stands}
 use Rattle.tracing.proofs.From.{from_end, from_more, from_bad}
 
 -- One strict datagram before others.
@@ -48,13 +48,13 @@ plus_more c m (refused k) = refl
 
 module _ (form : Form) (s : List ℕ) (at : ℕ) where
   -- The ways in which a message is judged with its datagram.
-  pub strict-untimed : is_time s at ≡ false → strict_timed_at form s at ≡ refused 19
+  pub strict_untimed : is_time s at ≡ false → strict_timed_at form s at ≡ refused 19
   unfolding strict_timed_at
-  strict-untimed e = rw e refl
+  strict_untimed e = rw e refl
 
-  pub strict-timed : is_time s at ≡ true → strict_timed_at form s at ≡ strict_at form s (at + 5)
+  pub strict_timed : is_time s at ≡ true → strict_timed_at form s at ≡ strict_at form s (at + 5)
   unfolding strict_timed_at
-  strict-timed e = rw e refl
+  strict_timed e = rw e refl
 
   -- A message that was accepted with its datagram.
   pub record Taken (len next : ℕ) : Type 0 where
@@ -63,11 +63,11 @@ module _ (form : Form) (s : List ℕ) (at : ℕ) where
     pub onward : at < next
     pub inside : next ≤ length s
 
-  taken-by : (len next : ℕ) → is_time s at ≡ true → Accepted form s (at + 5) len next → Taken len next
-  taken-by len next e a =
+  taken_by : (len next : ℕ) → is_time s at ≡ true → Accepted form s (at + 5) len next → Taken len next
+  taken_by len next e a =
       record {
         accepts = a;
-        found = timed-given form s at e a.whole.found a.whole.is;
+        found = timed_given form s at e a.whole.found a.whole.is;
         onward = omega (arith, a.whole.stands.room, a.whole.next-is);
         inside = omega (arith, a.whole.stands.inside, a.whole.next-is);
       }
@@ -75,8 +75,8 @@ module _ (form : Form) (s : List ℕ) (at : ℕ) where
   pub taken : (len next : ℕ) → strict_timed_at form s at ≡ given (record { len = len; next = next }) → Taken len next
   taken len next h =
       on (λ (_ : Unit {0}). Taken len next) (is_time s at) {x = tt} {y = tt}
-      (λ e. taken-by len next e (accepted form s (at + 5) len next (sym (strict-timed e) ∙ h)))
-      (λ e. not_refused (sym h ∙ strict-untimed e))
+      (λ e. taken_by len next e (accepted form s (at + 5) len next (sym (strict_timed e) ∙ h)))
+      (λ e. not_refused (sym h ∙ strict_untimed e))
 
 module _ (form : Form) (s : List ℕ) where
   abbrev pub strict_from : ℕ → Answer (List Timed)
@@ -87,20 +87,20 @@ module _ (form : Form) (s : List ℕ) where
     pub few : count ≤ at
     pub whole : count_of (strict_from 0) ≡ plus count (count_of (strict_from at))
 
-  pub judge-start : JudgeWalk 0 0
-  judge-start = record { few = omega arith; whole = plus_none (count_of (strict_from 0)) }
+  pub judge_start : JudgeWalk 0 0
+  judge_start = record { few = omega arith; whole = plus_none (count_of (strict_from 0)) }
 
   module _ (count at : ℕ) (w : JudgeWalk count at) where
-    pub judge-ends : length s ≤ at → given count ≡ count_of (strict_from 0)
+    pub judge_ends : length s ≤ at → given count ≡ count_of (strict_from 0)
     unfolding strictly
-    judge-ends h =
+    judge_ends h =
         sym (w.whole ∙ (ap (λ (a : Answer (List Timed)). plus count (count_of (onward a strictly))) (from_end form s at h) ∙ ap given (add-zero count)))
 
-    pub judge-stops : (k : ℕ) → strict_from at ≡ refused k → refused k ≡ count_of (strict_from 0)
-    judge-stops k e = sym (w.whole ∙ ap (λ (a : Answer (List Timed)). plus count (count_of a)) e)
+    pub judge_stops : (k : ℕ) → strict_from at ≡ refused k → refused k ≡ count_of (strict_from 0)
+    judge_stops k e = sym (w.whole ∙ ap (λ (a : Answer (List Timed)). plus count (count_of a)) e)
 
-    pub judge-turn : (len next : ℕ) → at < length s → Taken form s at len next → JudgeWalk (count + 1) next
-    judge-turn len next h t =
+    pub judge_turn : (len next : ℕ) → at < length s → Taken form s at len next → JudgeWalk (count + 1) next
+    judge_turn len next h t =
         let o = t.accepts.whole in
         let m : TimedFound = timed_with (time_at s at) o.found in
         record {
@@ -116,93 +116,93 @@ module _ (form : Form) (s : List ℕ) where
   pub record RestWalk (from at : ℕ) : Type 0 where
     pub whole : whether (traced_from form s from) ≡ whether (traced_from form s at)
 
-  pub rest-start : (from : ℕ) → RestWalk from from
-  rest-start from = record { whole = refl }
+  pub rest_start : (from : ℕ) → RestWalk from from
+  rest_start from = record { whole = refl }
 
-  whether-more : (m : Timed) (a : Answer (List Timed)) → whether (onward a (λ l. given (m ∷ l))) ≡ whether a
-  whether-more m (given l) = refl
-  whether-more m (refused k) = refl
+  whether_more : (m : Timed) (a : Answer (List Timed)) → whether (onward a (λ l. given (m ∷ l))) ≡ whether a
+  whether_more m (given l) = refl
+  whether_more m (refused k) = refl
 
   -- A message that was measured was found.
   pub record Measured (at time len next : ℕ) : Type 0 where
     pub found : TimedFound
     pub is : timed_at form s at ≡ given found
     pub stands : Stands form s at found
-    pub time-is : found.timed.time ≡ time
-    pub next-is : found.next ≡ next
+    pub time_is : found.timed.time ≡ time
+    pub next_is : found.next ≡ next
 
   same_extent : (a b : TimedExtent) → ◌≡◌ {A = Answer TimedExtent} (given a) (given b) → a ≡ b
   same_extent a b e = cc
 
-  measured-by : (at time len next : ℕ) (a : Answer TimedFound) → timed_at form s at ≡ a → given (record { time = time; len = len; next = next }) ≡ timed_extent a → Measured at time len next
-  measured-by at time len next (given m) q e =
+  measured_by : (at time len next : ℕ) (a : Answer TimedFound) → timed_at form s at ≡ a → given (record { time = time; len = len; next = next }) ≡ timed_extent a → Measured at time len next
+  measured_by at time len next (given m) q e =
       let k = same_extent (record { time = time; len = len; next = next }) (record { time = m.timed.time; len = length m.timed.message.datagram; next = m.next }) e in
       record {
         found = m;
         is = q;
         stands = on_given (Stands form s at) (timed_at form s at) m (stands form s at) q;
-        time-is = sym (ap (λ (x : TimedExtent). x.time) k);
-        next-is = sym (ap (λ (x : TimedExtent). x.next) k);
+        time_is = sym (ap (λ (x : TimedExtent). x.time) k);
+        next_is = sym (ap (λ (x : TimedExtent). x.next) k);
       }
-  measured-by at time len next (refused k) q e = not_refused e
+  measured_by at time len next (refused k) q e = not_refused e
 
   pub measured : (at time len next : ℕ) → given (record { time = time; len = len; next = next }) ≡ timed_extent (timed_at form s at) → Measured at time len next
-  measured at time len next e = measured-by at time len next (timed_at form s at) refl e
+  measured at time len next e = measured_by at time len next (timed_at form s at) refl e
 
-  extents-are : (a b c a' b' c' : ℕ) → a ≡ a' → b ≡ b' → c ≡ c' → ◌≡◌ {A = Answer TimedExtent} (given (record { time = a; len = b; next = c })) (given (record { time = a'; len = b'; next = c' }))
-  extents-are a b c a' b' c' p q r = rw (p, q, r) refl
+  extents_are : (a b c a' b' c' : ℕ) → a ≡ a' → b ≡ b' → c ≡ c' → ◌≡◌ {A = Answer TimedExtent} (given (record { time = a; len = b; next = c })) (given (record { time = a'; len = b'; next = c' }))
+  extents_are a b c a' b' c' p q r = rw (p, q, r) refl
 
   pub measures : (at time len next : ℕ) → is_time s at ≡ true → time ≡ time_at s at → Whole form s (at + 5) len next → given (record { time = time; len = len; next = next }) ≡ timed_extent (timed_at form s at)
   measures at time len next t e o =
-      extents-are time len next (time_at s at) (length o.found.message.datagram) o.found.next e (sym o.length_is) (sym o.next-is)
-      ∙ sym (ap timed_extent (timed-given form s at t o.found o.is))
+      extents_are time len next (time_at s at) (length o.found.message.datagram) o.found.next e (sym o.length_is) (sym o.next-is)
+      ∙ sym (ap timed_extent (timed_given form s at t o.found o.is))
 
   -- A message that wasn't measured wasn't found.
-  unmeasured-by : (at k : ℕ) (a : Answer TimedFound) → timed_at form s at ≡ a → refused k ≡ timed_extent a → timed_at form s at ≡ refused k
-  unmeasured-by at k (given m) q e = not_refused (sym e)
-  unmeasured-by at k (refused j) q e = cc
+  unmeasured_by : (at k : ℕ) (a : Answer TimedFound) → timed_at form s at ≡ a → refused k ≡ timed_extent a → timed_at form s at ≡ refused k
+  unmeasured_by at k (given m) q e = not_refused (sym e)
+  unmeasured_by at k (refused j) q e = cc
 
   pub unmeasured : (at k : ℕ) → refused k ≡ timed_extent (timed_at form s at) → timed_at form s at ≡ refused k
-  unmeasured at k e = unmeasured-by at k (timed_at form s at) refl e
+  unmeasured at k e = unmeasured_by at k (timed_at form s at) refl e
 
   module _ (from at : ℕ) (w : RestWalk from at) where
-    pub rest-ends : length s ≤ at → given tt ≡ whether (traced_from form s from)
-    rest-ends h = sym (w.whole ∙ ap whether (from_end form s at h))
+    pub rest_ends : length s ≤ at → given tt ≡ whether (traced_from form s from)
+    rest_ends h = sym (w.whole ∙ ap whether (from_end form s at h))
 
-    pub rest-refused : (k : ℕ) → at < length s → refused k ≡ timed_extent (timed_at form s at) → refused k ≡ whether (traced_from form s from)
-    rest-refused k h e = sym (w.whole ∙ ap whether (from_bad form s at k h (unmeasured at k e)))
+    pub rest_refused : (k : ℕ) → at < length s → refused k ≡ timed_extent (timed_at form s at) → refused k ≡ whether (traced_from form s from)
+    rest_refused k h e = sym (w.whole ∙ ap whether (from_bad form s at k h (unmeasured at k e)))
 
-    pub rest-turn : (time len next : ℕ) → at < length s → Measured at time len next → RestWalk from next
-    rest-turn time len next h o =
+    pub rest_turn : (time len next : ℕ) → at < length s → Measured at time len next → RestWalk from next
+    rest_turn time len next h o =
         record {
           whole = w.whole
               ∙ (ap whether (from_more form s at o.found h o.is)
-              ∙ (whether-more o.found.timed (traced_from form s o.found.next)
+              ∙ (whether_more o.found.timed (traced_from form s o.found.next)
               ∙ ap (λ (n : ℕ). whether (traced_from form s n)) o.next-is));
         }
 
   -- Where the trace is refused from a position on, it is for that.
-  whether-refused : (k : ℕ) (a : Answer (List Timed)) → refused k ≡ whether a → a ≡ refused k
-  whether-refused k (given l) e = not_refused (sym e)
-  whether-refused k (refused j) e = ap refused (same_refused (sym e))
+  whether_refused : (k : ℕ) (a : Answer (List Timed)) → refused k ≡ whether a → a ≡ refused k
+  whether_refused k (given l) e = not_refused (sym e)
+  whether_refused k (refused j) e = ap refused (same_refused (sym e))
 
-  pub refused-trace : (at k : ℕ) → refused k ≡ whether (traced_from form s at) → strict_from at ≡ refused k
-  refused-trace at k e = rw (whether-refused k (traced_from form s at) e) refl
+  pub refused_trace : (at k : ℕ) → refused k ≡ whether (traced_from form s at) → strict_from at ≡ refused k
+  refused_trace at k e = rw (whether_refused k (traced_from form s at) e) refl
 
   -- Else the datagram decides.
-  first-bad : (m : Timed) (k : ℕ) → reading true m.message.datagram ≡ refused k → (a : Answer (List Timed)) → given tt ≡ whether (onward a (λ l. given (m ∷ l))) → onward (onward a (λ l. given (m ∷ l))) strictly ≡ refused k
+  first_bad : (m : Timed) (k : ℕ) → reading true m.message.datagram ≡ refused k → (a : Answer (List Timed)) → given tt ≡ whether (onward a (λ l. given (m ∷ l))) → onward (onward a (λ l. given (m ∷ l))) strictly ≡ refused k
   unfolding strictly
-  first-bad m k r (given l) e = rw r refl
-  first-bad m k r (refused j) e = not_refused e
+  first_bad m k r (given l) e = rw r refl
+  first_bad m k r (refused j) e = not_refused e
 
-  refused-by : (at k : ℕ) (f : Answer TimedFound) → timed_at form s at ≡ f → at < length s → strict_timed_at form s at ≡ refused k → given tt ≡ whether (traced_from form s at) → strict_from at ≡ refused k
-  refused-by at k (given m) q h e g =
+  refused_by : (at k : ℕ) (f : Answer TimedFound) → timed_at form s at ≡ f → at < length s → strict_timed_at form s at ≡ refused k → given tt ≡ whether (traced_from form s at) → strict_from at ≡ refused k
+  refused_by at k (given m) q h e g =
       let n = from_more form s at m h q in
       let t : Stands form s at m = on_given (Stands form s at) (timed_at form s at) m (stands form s at) q in
-      let r = bad-datagram form s (at + 5) t.found k t.is (sym (strict-timed form s at t.timed) ∙ e) in
+      let r = bad_datagram form s (at + 5) t.found k t.is (sym (strict_timed form s at t.timed) ∙ e) in
       let d : reading true m.timed.message.datagram ≡ refused k = ap (λ (x : TimedFound). reading true x.timed.message.datagram) t.value ∙ r in
-      ap (λ (a : Answer (List Timed)). onward a strictly) n ∙ first-bad m.timed k d (traced_from form s m.next) (g ∙ ap whether n)
-  refused-by at k (refused j) q h e g = not_refused (g ∙ ap whether (from_bad form s at j h q))
+      ap (λ (a : Answer (List Timed)). onward a strictly) n ∙ first_bad m.timed k d (traced_from form s m.next) (g ∙ ap whether n)
+  refused_by at k (refused j) q h e g = not_refused (g ∙ ap whether (from_bad form s at j h q))
 
-  pub refused-datagram : (at k : ℕ) → at < length s → strict_timed_at form s at ≡ refused k → given tt ≡ whether (traced_from form s at) → strict_from at ≡ refused k
-  refused-datagram at k h e g = refused-by at k (timed_at form s at) refl h e g
+  pub refused_datagram : (at k : ℕ) → at < length s → strict_timed_at form s at ≡ refused k → given tt ≡ whether (traced_from form s at) → strict_from at ≡ refused k
+  refused_datagram at k h e g = refused_by at k (timed_at form s at) refl h e g

@@ -11,8 +11,8 @@ use Rattle.stream.specs.declared.Form.{Form}
 use Rattle.stream.specs.Stream.{message_of}
 use Rattle.tracing.specs.Trace.{Timed, AllTimed, time_of, trace_of}
 use Rattle.tracing.specs.TimedMessages.{form_of, time_at, TimedFound, timed_at, traced_at, traced}
-use Rattle.tracing.proofs.Times.{time-small, time-stands}
-use Rattle.tracing.proofs.Found.{time-there, Stands, stands}
+use Rattle.tracing.proofs.Times.{time_small, time_stands}
+use Rattle.tracing.proofs.Found.{time_there, Stands, stands}
 
 module _ (form : Form) (s : List ℕ) (small : Bytes s) where
   -- The messages from a position are laid out there, to the end.
@@ -25,17 +25,17 @@ module _ (form : Form) (s : List ℕ) (small : Bytes s) where
 
   one_follows : (at : ℕ) (m : TimedFound) → Stands form s at m → (l : List Timed) → Follow m.next l → Follow at (m.timed ∷ l)
   one_follows at m h l f =
-      let t : (get_or s at 0 ≡ 8) × (at + 5 ≤ length s) = time-there s at h.timed in
+      let t : (get_or s at 0 ≡ 8) × (at + 5 ≤ length s) = time_there s at h.timed in
       let n : ℕ = time_at s at in
       let x : List ℕ = message_of form h.found.message in
       let o : m.next ≡ h.found.next = ap (λ (y : TimedFound). y.next) h.value in
       let v : m.timed ≡ record { time = n; message = h.found.message } = ap (λ (y : TimedFound). y.timed) h.value in
       let k : drop at s ≡ time_of n ++ (x ++ trace_of form l) =
-      time-stands s at small t.1 t.0
+      time_stands s at small t.1 t.0
       ∙ ap (λ (r : List ℕ). time_of n ++ r) (h.message.bytes ∙ ap (λ (r : List ℕ). x ++ r) (ap (λ (i : ℕ). drop i s) (sym o) ∙ f.bytes)) in
       record {
         bytes = rw v k;
-        timed = rw v ((time-small s at small t.1, h.message.sized), f.timed);
+        timed = rw v ((time_small s at small t.1, h.message.sized), f.timed);
       }
 
   pub messages_sound : (fuel at : ℕ) → Given (Follow at) (traced_at form s fuel at)

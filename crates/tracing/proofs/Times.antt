@@ -37,14 +37,14 @@ bytes_of_four a b c d ha hb hc hd =
     rw (p, q, r, t) refl
 
 module _ (s : List ℕ) (at : ℕ) (bytes : Bytes s) (inside : at + 5 ≤ length s) where
-  pub time-small : time_at s at < 4294967296
-  time-small =
+  pub time_small : time_at s at < 4294967296
+  time_small =
       let n : length (part s (at + 1) 4) ≡ 4 = part_length s (at + 1) 4 (omega arith) in
       rw n at (number_below (part s (at + 1) 4) (bytes_take 4 (drop (at + 1) s) (bytes_drop (at + 1) s bytes)))
 
   -- The record of the time that is read at a position stands there.
-  pub time-stands : get_or s at 0 ≡ 8 → drop at s ≡ time_of (time_at s at) ++ drop (at + 5) s
-  time-stands e =
+  pub time_stands : get_or s at 0 ≡ 8 → drop at s ≡ time_of (time_at s at) ++ drop (at + 5) s
+  time_stands e =
       let f = four_are s (at + 1) (omega arith) in
       let k = bytes_of_four (get_or s (at + 1) 0) (get_or s (at + 1 + 1) 0) (get_or s (at + 1 + 2) 0) (get_or s (at + 1 + 3) 0)
       (byte_at s (at + 1) bytes) (byte_at s (at + 1 + 1) bytes) (byte_at s (at + 1 + 2) bytes) (byte_at s (at + 1 + 3) bytes) in
@@ -57,11 +57,11 @@ module _ (s : List ℕ) (at : ℕ) (bytes : Bytes s) (inside : at + 5 ≤ length
 
 -- The record of a time that stands at a position is read there.
 module _ (s : List ℕ) (at t : ℕ) (rest : List ℕ) (h : at ≤ length s) (e : drop at s ≡ time_of t ++ rest) where
-  pub time-kind : get_or s at 0 ≡ 8
-  time-kind = rw add-zero at (byte s at (time_of t) rest e h 0 (omega arith))
+  pub time_kind : get_or s at 0 ≡ 8
+  time_kind = rw add-zero at (byte s at (time_of t) rest e h 0 (omega arith))
 
-  pub time-read : t < 4294967296 → time_at s at ≡ t
-  time-read small =
+  pub time_read : t < 4294967296 → time_at s at ≡ t
+  time_read small =
       let x : List ℕ = (t / 16777216) ∷ (t / 65536 % 256) ∷ (t / 256 % 256) ∷ (t % 256) ∷ [] in
       let p : part s (at + 1) 4 ≡ x = names s (at + 1) x rest (past s at (8 ∷ []) (x ++ rest) e h) in
       rw p (omega arith)

@@ -1,6 +1,7 @@
 // Traces: a freeze stream of either form with a time before each message. A trace is judged as a whole, and read message by message
 // where it stands.
 #![tactic(auto)]
+
 ghost use Rattle.std.specs.Prelude.{◌≡◌, ◌+◌, ◌<◌, ◌≤◌, length};
 ghost use Rattle.ground.specs.Part.{part};
 ghost use Rattle.refusal.specs.Answer.{refused, onward, outcome, beside};

@@ -27,7 +27,7 @@ use Rattle.reading.proofs.Accept.{accepted}
 use Rattle.reading.proofs.Complete.{reads_layout}
 use Rattle.framing.specs.Framing.{framed, strictly, unframed, frame_of, bytes_of, Converts}
 use Rattle.framing.proofs.Converting.{frame_is}
-use Rattle.framing.proofs.Back.{unframed-frame, came-back}
+use Rattle.framing.proofs.Back.{unframed_frame, came_back}
 use Rattle.guarantees.specs.StrictReading.{IsLayoutOf}
 use Rattle.guarantees.specs.Wrote.{Wrote}
 use Rattle.transfer_guarantees.specs.Frames.{IsFrameOf, renamed, OneMessage, Out, Back, OutThenBack, BackThenOut, FrameOutputKept, OneConversion}
@@ -71,13 +71,13 @@ module _ (a : Answer (List ℕ)) (old : List ℕ) (r : Written) (new : List ℕ)
 
 -- Out: the frame of a message whose layout was read, and the other way round.
 module _ (m : Message) (w : WellFormed m) (short : length (layout m) ≤ 70000) where
-  framed-layout : framed (layout m) ≡ given (frame m)
+  framed_layout : framed (layout m) ≡ given (frame m)
   unfolding framed
-  framed-layout = let r = reads_layout m w short in rw r.is (ap (λ (x : Message). given (frame x)) (r.means []))
+  framed_layout = let r = reads_layout m w short in rw r.is (ap (λ (x : Message). given (frame x)) (r.means []))
 
-  strictly-layout : strictly (layout m) ≡ given (layout m)
+  strictly_layout : strictly (layout m) ≡ given (layout m)
   unfolding strictly
-  strictly-layout = let r = reads_layout m w short in rw r.is refl
+  strictly_layout = let r = reads_layout m w short in rw r.is refl
 
 -- A datagram that strict reading accepts is short, and the layout of a message.
 record Holds (s : List ℕ) (p : Packet) : Type 0 where
@@ -103,7 +103,7 @@ framed_from s b f e =
     record { message = meaning (stores s []) o.0; is = h.message; short = h.short; frame_is = same_given o.2 }
 
 of_layout : (s : List ℕ) (m : Message) → IsLayoutOf s m → length s ≤ 70000 → framed s ≡ given (frame m)
-of_layout s m l short = ap framed (sym l.bytes) ∙ framed-layout m l.well_formed (omega (arith, ap length l.bytes))
+of_layout s m l short = ap framed (sym l.bytes) ∙ framed_layout m l.well_formed (omega (arith, ap length l.bytes))
 
 pub out : Out
 out s b old r new promise =
@@ -122,8 +122,8 @@ out s b old r new promise =
 
 -- Back: a message with another type and id is well-formed too, is as long and has the same frame.
 module _ (kind : MessageType) (id : ℕ) (small : id ≤ 65535) (m : Message) (w : WellFormed m) where
-  renamed-well : WellFormed (renamed kind id m)
-  renamed-well =
+  renamed_well : WellFormed (renamed kind id m)
+  renamed_well =
       record {
         version = w.version;
         type = omega (arith, type_small kind);
@@ -138,18 +138,18 @@ module _ (kind : MessageType) (id : ℕ) (small : id ≤ 65535) (m : Message) (w
         empty = λ z. let e = w.empty z in record { token = e.token; options = e.options; payload = e.payload };
       }
 
-  renamed-long : length (layout (renamed kind id m)) ≡ length (layout m)
+  renamed_long : length (layout (renamed kind id m)) ≡ length (layout m)
   unfolding layout header_layout
-  renamed-long = refl
+  renamed_long = refl
 
-  same-frame : frame (renamed kind id m) ≡ frame m
+  same_frame : frame (renamed kind id m) ≡ frame m
   unfolding frame
-  same-frame = refl
+  same_frame = refl
 
   comes_back : length (layout m) ≤ 70000 → unframed kind id (frame m) ≡ given (layout (renamed kind id m))
   comes_back short =
-      ap (unframed kind id) (sym same-frame)
-      ∙ (unframed-frame kind (renamed kind id m) renamed-well refl ∙ strictly-layout (renamed kind id m) renamed-well (omega (arith, renamed-long)))
+      ap (unframed kind id) (sym same_frame)
+      ∙ (unframed_frame kind (renamed kind id m) renamed_well refl ∙ strictly_layout (renamed kind id m) renamed_well (omega (arith, renamed_long)))
 
 record UnframedFrom (f d : List ℕ) : Type 0 where
   message : Message
@@ -157,9 +157,9 @@ record UnframedFrom (f d : List ℕ) : Type 0 where
   layout_is : layout message ≡ d
 
 module _ (kind : MessageType) (id : ℕ) (small : id ≤ 65535) (f : List ℕ) (b : Bytes f) where
-  unframed-from : (d : List ℕ) → unframed kind id f ≡ given d → UnframedFrom f d
-  unframed-from d e =
-      let c = came-back kind id small f b d e in
+  unframed_from : (d : List ℕ) → unframed kind id f ≡ given d → UnframedFrom f d
+  unframed_from d e =
+      let c = came_back kind id small f b d e in
       let k = holds d c.bytes c.packet c.read in
       let m = meaning (stores d []) c.packet in
       record {
@@ -172,19 +172,19 @@ module _ (kind : MessageType) (id : ℕ) (small : id ≤ 65535) (f : List ℕ) (
         layout_is = k.message.bytes;
       }
 
-  of-frame : (m : Message) → IsFrameOf f m → unframed kind id f ≡ given (layout (renamed kind id m))
-  of-frame m l = ap (unframed kind id) (sym l.bytes) ∙ comes_back kind id small m l.well_formed l.short
+  of_frame : (m : Message) → IsFrameOf f m → unframed kind id f ≡ given (layout (renamed kind id m))
+  of_frame m l = ap (unframed kind id) (sym l.bytes) ∙ comes_back kind id small m l.well_formed l.short
 
 pub back : Back
 back kind id small f b old r new promise =
     let writes : (m : Message) → IsFrameOf f m → length (layout m) ≤ length old → Wrote (layout (renamed kind id m)) old r new =
-    λ m l fits. wrote (unframed kind id f) old r new promise (layout (renamed kind id m)) (of-frame kind id small f b m l) (omega (arith, renamed-long kind id small m l.well_formed)) in
+    λ m l fits. wrote (unframed kind id f) old r new promise (layout (renamed kind id m)) (of_frame kind id small f b m l) (omega (arith, renamed_long kind id small m l.well_formed)) in
     record {
       writes = writes;
       exactly = (
         λ h.
             let c = converted (unframed kind id f) old r new promise h.0 h.1 in
-            let o = unframed-from kind id small f b c.bytes c.is in
+            let o = unframed_from kind id small f b c.bytes c.is in
             (o.message, o.is, rw o.layout_is c.fits),
         λ h. (length (layout (renamed kind id h.0)), (writes h.0 h.1 h.2).answer),
       );
@@ -204,8 +204,8 @@ one_message f m n l k kind id =
     let b = comes_back kind 0 (omega arith) n k.well_formed k.short in
     let same : layout (renamed kind 0 m) ≡ layout (renamed kind 0 n) = same_given (sym a ∙ (ap (unframed kind 0) (l.bytes ∙ sym k.bytes) ∙ b)) in
     ap (renamed kind id)
-    (one_layout (renamed kind 0 m) (renamed kind 0 n) (renamed-well kind 0 (omega arith) m l.well_formed) (renamed-well kind 0 (omega arith) n k.well_formed)
-    (omega (arith, renamed-long kind 0 (omega arith) m l.well_formed, l.short)) same)
+    (one_layout (renamed kind 0 m) (renamed kind 0 n) (renamed_well kind 0 (omega arith) m l.well_formed) (renamed_well kind 0 (omega arith) n k.well_formed)
+    (omega (arith, renamed_long kind 0 (omega arith) m l.well_formed, l.short)) same)
 
 -- With its own type and id a message is itself.
 renamed_self : (kind : MessageType) (m : Message) → number_of_type kind ≡ m.type → renamed kind m.id m ≡ m
@@ -229,10 +229,10 @@ out_then_back s b old r new n promise e m l kind same old₂ r₂ new₂ fits ag
 pub back_then_out : BackThenOut
 back_then_out kind id small f b old r new n promise e old₂ r₂ new₂ fits again =
     let c = converted (unframed kind id f) old r new promise n e in
-    let o = unframed-from kind id small f b c.bytes c.is in
+    let o = unframed_from kind id small f b c.bytes c.is in
     let stands-there : take n new ≡ layout o.message = stood (unframed kind id f) old r new promise n e c.bytes c.is c.fits ∙ sym o.layout_is in
     let gives : framed (take n new) ≡ given f =
-    ap framed stands-there ∙ (framed-layout o.message o.is.well_formed o.is.short ∙ ap given o.is.bytes) in
+    ap framed stands-there ∙ (framed_layout o.message o.is.well_formed o.is.short ∙ ap given o.is.bytes) in
     wrote (framed (take n new)) old₂ r₂ new₂ again f gives fits
 
 pub frame_output_kept : FrameOutputKept

@@ -23,28 +23,28 @@ use Rattle.image.specs.Image.{units, fits}
 use Rattle.image.proofs.Fitting.{Fitting, fitting}
 use Rattle.plan_checking.specs.Plan.{start, stop, covers, over, checking}
 use Rattle.plan_checking.specs.Accepted.{Good}
-use Rattle.plan_checking.proofs.Accepted.{good-done, done-good, not_done}
+use Rattle.plan_checking.proofs.Accepted.{good_done, done_good, not_done}
 use Rattle.planning.specs.Planner.{planned, planning, values}
-use Rattle.planning.proofs.Answered.{given_fits, wrote, rest-kept, enough}
-use Rattle.planning.proofs.Ours.{ours-accepted, ours-good, read-ours}
-use Rattle.planning.proofs.Named.{named, greedy, empty-full, full-empty}
-use Rattle.planning.proofs.Bound.{half-as-many}
+use Rattle.planning.proofs.Answered.{given_fits, wrote, rest_kept, enough}
+use Rattle.planning.proofs.Ours.{ours_accepted, ours_good, read_ours}
+use Rattle.planning.proofs.Named.{named, greedy, empty_full, full_empty}
+use Rattle.planning.proofs.Bound.{half_as_many}
 use Rattle.transfer_guarantees.specs.Plans.{ChecksExactly, asks, asked, NeverOverlaid, OurPlan, PlansWell, RoomEnough, ListKept, OneVerdict, OnePlan}
 use Rattle.guarantees.proofs.Refusals.{output_kept}
 
 -- The check.
 module _ (bytes : ℕ) (held values : List ℕ) (r : Outcome) (promise : outcome r ≡ checking bytes held values) where
-  done-is : Good bytes held values → r ≡ Done
-  done-is g = one_outcome r Done (promise ∙ good-done bytes held values g)
+  done_is : Good bytes held values → r ≡ Done
+  done_is g = one_outcome r Done (promise ∙ good_done bytes held values g)
 
-  is-good : r ≡ Done → Good bytes held values
-  is-good e = done-good bytes held values (sym promise ∙ ap outcome e)
+  is_good : r ≡ Done → Good bytes held values
+  is_good e = done_good bytes held values (sym promise ∙ ap outcome e)
 
 pub checks_exactly : ChecksExactly
 checks_exactly bytes held values r promise = (
-  (is-good bytes held values r promise, done-is bytes held values r promise),
+  (is_good bytes held values r promise, done_is bytes held values r promise),
   (
-    λ e g. not_refused (sym (good-done bytes held values g) ∙ (sym promise ∙ ap outcome e)),
+    λ e g. not_refused (sym (good_done bytes held values g) ∙ (sym promise ∙ ap outcome e)),
     λ n. one_outcome r (Not BadPlan) (promise ∙ not_done bytes held values n),
   ),
 )
@@ -89,38 +89,38 @@ never_overlaid bytes held values g byte h =
 
 -- Our plan.
 module _ (bytes : ℕ) (held : List ℕ) (fit : fits bytes held ≡ true) where
-  no-values : (bs : List Block) → map block_number bs ≡ [] → bs ≡ []
-  no-values [] e = refl
-  no-values (b ∷ bs) e = cc
+  no_values : (bs : List Block) → map block_number bs ≡ [] → bs ≡ []
+  no_values [] e = refl
+  no_values (b ∷ bs) e = cc
 
-  our-plan : OurPlan bytes held (values bytes held)
-  our-plan =
-      let g : Good bytes held (values bytes held) = ours-good bytes held fit in
+  our_plan : OurPlan bytes held (values bytes held)
+  our_plan =
+      let g : Good bytes held (values bytes held) = ours_good bytes held fit in
       record {
         good = g;
-        passes = λ r promise. done-is bytes held (values bytes held) r promise g;
-        greedy = rw (read-ours bytes held fit) (greedy bytes held);
+        passes = λ r promise. done_is bytes held (values bytes held) r promise g;
+        greedy = rw (read_ours bytes held fit) (greedy bytes held);
         only = λ bs a d. ap (map block_number) (named bytes held bs a d);
         empty = (
-          λ e. empty-full bytes held (rw (no-values (planned bytes held) e) at (ours-accepted bytes held fit)),
-          λ n. ap (map block_number) (full-empty bytes held (planned bytes held) (ours-accepted bytes held fit) n),
+          λ e. empty_full bytes held (rw (no_values (planned bytes held) e) at (ours_accepted bytes held fit)),
+          λ n. ap (map block_number) (full_empty bytes held (planned bytes held) (ours_accepted bytes held fit) n),
         );
-        half = omega (arith, half-as-many bytes held, (fitting bytes held fit).whole, length-map (planned bytes held) block_number);
+        half = omega (arith, half_as_many bytes held, (fitting bytes held fit).whole, length-map (planned bytes held) block_number);
       }
 
 pub plans_well : PlansWell
 plans_well bytes held old r new promise n e =
     let is : written r ≡ given n = ap written e in
     let front : take n new ≡ values bytes held = wrote bytes held old r new promise n is in
-    (rw front (our-plan bytes held (given_fits (length old) bytes held n (sym promise.answer ∙ is))), rw front (rest-kept bytes held old r new promise n is))
+    (rw front (our_plan bytes held (given_fits (length old) bytes held n (sym promise.answer ∙ is))), rw front (rest_kept bytes held old r new promise n is))
 
 pub room_enough : RoomEnough
 room_enough bytes held old r new promise fit =
-    let half : length (values bytes held) ≤ (units bytes + 1) / 2 = (our-plan bytes held fit).half in
-    let written-so : length (values bytes held) ≤ length old → (n : ℕ) × (r ≡ Length n) =
+    let half : length (values bytes held) ≤ (units bytes + 1) / 2 = (our_plan bytes held fit).half in
+    let written_so : length (values bytes held) ≤ length old → (n : ℕ) × (r ≡ Length n) =
     λ h. (length (values bytes held), one_written r (Length (length (values bytes held))) (promise.answer ∙ enough (length old) bytes held fit h))
     in
-    (λ h. written-so (omega arith), λ h. written-so (omega (arith, (fitting bytes held fit).most)))
+    (λ h. written_so (omega arith), λ h. written_so (omega (arith, (fitting bytes held fit).most)))
 
 pub list_kept : ListKept
 list_kept bytes held old r new q e is =

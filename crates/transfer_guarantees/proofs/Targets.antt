@@ -38,7 +38,7 @@ use Rattle.target_writing.specs.ToText.{text_in, writable}
 use Rattle.target_reading.specs.FromText.{Reply, passes, refused, refused_at, placed, reply_to, packet_for, packet_of, store_of, bare, told, FromText}
 use Rattle.target_reading.specs.declared.Verdict.{Verdict}
 use Rattle.target_reading.specs.declared.Verdict.TheVariants.{Passes, Refused as Not, BadOption}
-use Rattle.target_reading.proofs.Meaning.{options-are}
+use Rattle.target_reading.proofs.Meaning.{options_are}
 use Rattle.guarantees.proofs.Refusals.{output_kept}
 use Rattle.transfer_guarantees.specs.Targets.{target_in, WritesText, WritesSpelt, new_message, MeansTarget, HasRoom, Identity, Stable, TextKept, StoreKept, OneText, OneTarget, StableCalls, TextLeaves, ToldApart}
 use Rattle.guarantees.proofs.Homes.{frozen_stays}
@@ -124,7 +124,7 @@ no_bytes s = on_le (λ (x : List ℕ). x ≡ []) (0 + 0) (length s) (λ _. refl)
 new_with : (d old : List ℕ) (start : ℕ) (t : Target) → length t.path + length t.query ≤ max_options → start + (total t.path + total t.query) ≤ length old → meaning (stores d (store_of start (passes t) old)) (packet_for start t) ≡ new_message (options_of t)
 unfolding new_packet packet_for
 new_with d old start t few room =
-    let os = options-are start t few d old room in
+    let os = options_are start t few d old room in
     λ i. record { version = 1; type = 0; code = 1; id = 0; token = no_bytes d i; options = os i; payload = no_bytes d i }
 
 pub means_target : MeansTarget

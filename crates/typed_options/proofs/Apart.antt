@@ -24,9 +24,9 @@ module _ (old : List ℕ) (start : ℕ) (bytes : List ℕ) where
       ⊎_elim (λ h. part_before bytes old start from size h) (λ h. ap (take size) (part_after bytes old start from h)) a in
       rw (length-sets old start bytes, same) refl
 
-  pub own-bytes : start + length bytes ≤ length old → bytes_in (sets old start bytes) start (length bytes) ≡ bytes
+  pub own_bytes : start + length bytes ≤ length old → bytes_in (sets old start bytes) start (length bytes) ≡ bytes
   unfolding bytes_in
-  own-bytes h =
+  own_bytes h =
       let inside : start + length bytes ≤ length (sets old start bytes) = rw length-sets h in
       rw (le-leb (start + length bytes) (length (sets old start bytes)) inside) (part_put old start bytes h)
 
@@ -38,22 +38,22 @@ module _ (old : List ℕ) (start : ℕ) (bytes : List ℕ) where
     abbrev then : Stores
     then = stores d (sets old start bytes)
 
-    pub apart-bytes : (r : Range) → Apart start (length bytes) r → bytes_of then r ≡ bytes_of was r
-    apart-bytes r = go r.home
+    pub apart_bytes : (r : Range) → Apart start (length bytes) r → bytes_of then r ≡ bytes_of was r
+    apart_bytes r = go r.home
       where
         go : (h : Home) → chosen h (Unit {0}) ((r.start + r.len ≤ start) ⊎ (start + length bytes ≤ r.start))
             → bytes_in (store_of then h) r.start r.len ≡ bytes_in (store_of was h) r.start r.len
         go Datagram a = refl
         go Edits a = apart_in r.start r.len a
 
-    pub apart-options : (rs : List OptionRecord) → AllApart start (length bytes) rs → map (option_of then) rs ≡ map (option_of was) rs
-    apart-options [] a = refl
-    apart-options (r ∷ rs) a =
-        let first : bytes_of then (range_of r) ≡ bytes_of was (range_of r) = apart-bytes (range_of r) a.0 in
-        rw (first, apart-options rs a.1) refl
+    pub apart_options : (rs : List OptionRecord) → AllApart start (length bytes) rs → map (option_of then) rs ≡ map (option_of was) rs
+    apart_options [] a = refl
+    apart_options (r ∷ rs) a =
+        let first : bytes_of then (range_of r) ≡ bytes_of was (range_of r) = apart_bytes (range_of r) a.0 in
+        rw (first, apart_options rs a.1) refl
 
-    pub meaning-apart : (p : Packet) → Untouched start (length bytes) p (records_of p) → meaning then p ≡ meaning was p
-    meaning-apart p u =
-        let token = apart-bytes p.token u.token in
-        let payload = apart-bytes p.payload u.payload in
-        rw (token, payload, apart-options (records_of p) u.options) refl
+    pub meaning_apart : (p : Packet) → Untouched start (length bytes) p (records_of p) → meaning then p ≡ meaning was p
+    meaning_apart p u =
+        let token = apart_bytes p.token u.token in
+        let payload = apart_bytes p.payload u.payload in
+        rw (token, payload, apart_options (records_of p) u.options) refl

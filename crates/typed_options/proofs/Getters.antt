@@ -21,10 +21,10 @@ holds true e = refl
 holds false e = cc
 
 module _ {A : Type 0} (absent : A) (found : OptionRecord → A) (there : Bool) where
-  pub on-absent : (rs : List OptionRecord) → there ≡ ltb 0 (length rs) → not there ≡ true → absent ≡ on_first rs absent found
-  on-absent [] e h = refl
-  on-absent (r ∷ rs) e h = absurd (omega (arith, ltb-false 0 (suc (length rs)) (cc (unless there h))))
+  pub on_absent : (rs : List OptionRecord) → there ≡ ltb 0 (length rs) → not there ≡ true → absent ≡ on_first rs absent found
+  on_absent [] e h = refl
+  on_absent (r ∷ rs) e h = absurd (omega (arith, ltb-false 0 (suc (length rs)) (cc (unless there h))))
 
-  pub on-present : (rs : List OptionRecord) → there ≡ ltb 0 (length rs) → not there ≡ false → found (get_or rs 0 none) ≡ on_first rs absent found
-  on-present [] e h = absurd (omega (arith, ltb-true 0 0 (cc (holds there h))))
-  on-present (r ∷ rs) e h = refl
+  pub on_present : (rs : List OptionRecord) → there ≡ ltb 0 (length rs) → not there ≡ false → found (get_or rs 0 none) ≡ on_first rs absent found
+  on_present [] e h = absurd (omega (arith, ltb-true 0 0 (cc (holds there h))))
+  on_present (r ∷ rs) e h = refl

@@ -5,7 +5,7 @@ use mathlib.Core.List.{List}
 use lib.ListN.{length}
 use borrow.Author.Tests.{lt-ltb, le-ltb}
 use Rattle.refusal.specs.Answer.{Answer, given, refused, after, beside, answered}
-use Rattle.refusal.proofs.Answers.{answered-beside}
+use Rattle.refusal.proofs.Answers.{answered_beside}
 use Rattle.packet.specs.Limits.{max_store}
 use Rattle.packet.specs.declared.Packet.{Packet}
 use Rattle.splicing.specs.Edited.{edited, Edits}
@@ -23,8 +23,8 @@ module _ (old : List ℕ) (start : ℕ) (bytes : List ℕ) where
   too_long a h = rw (lt-ltb max_store (length old) h) refl
 
   module _ (few : length old ≤ max_store) where
-    pub edit-refused : (k : ℕ) (a : Answer Packet) → a ≡ refused k → refused k ≡ storing old start bytes a
-    edit-refused k a e = rw (le-ltb max_store (length old) few, e) refl
+    pub edit_refused : (k : ℕ) (a : Answer Packet) → a ≡ refused k → refused k ≡ storing old start bytes a
+    edit_refused k a e = rw (le-ltb max_store (length old) few, e) refl
 
     module _ (q : Packet) (a : Answer Packet) (e : a ≡ given q) where
       pub no_room : length old < start + length bytes → refused 12 ≡ storing old start bytes a
@@ -37,5 +37,5 @@ module _ (old : List ℕ) (start : ℕ) (bytes : List ℕ) where
 pub sets_edit : (p : Packet) (a : Answer Packet) (start : ℕ) (bytes wide old : List ℕ) (e r : Edited) (new : List ℕ) → Edits p a e → wide ≡ bytes
     → Sets p (storing old start wide (answered (edited e))) start wide old r new → Sets p (storing old start bytes a) start bytes old r new
 sets_edit p a start bytes wide old e r new h b s =
-    let known : answered (edited e) ≡ a = ap answered h ∙ answered-beside p a in
+    let known : answered (edited e) ≡ a = ap answered h ∙ answered_beside p a in
     rw (b, known) at s

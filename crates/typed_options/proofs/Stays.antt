@@ -13,7 +13,7 @@ use Rattle.packet.specs.declared.Home.TheVariants.{Datagram}
 use Rattle.splicing.specs.declared.Edited.{Edited}
 use Rattle.typed_options.specs.Apart.{Apart, Untouched}
 use Rattle.typed_options.specs.Setters.{Sets}
-use Rattle.typed_options.proofs.Apart.{apart-bytes, meaning-apart}
+use Rattle.typed_options.proofs.Apart.{apart_bytes, meaning_apart}
 
 -- A range of the datagram is apart from all bytes that are put.
 pub datagram_apart : (start len : ℕ) (range : Range) → range.home ≡ Datagram → Apart start len range
@@ -26,15 +26,15 @@ after_either P (given q) start bytes old kept put = put
 after_either P (refused k) start bytes old kept put = kept
 
 module _ (p : Packet) (a : Answer Packet) (start : ℕ) (bytes old : List ℕ) (r : Edited) (new : List ℕ) (s : Sets p a start bytes old r new) (d : List ℕ) where
-  pub range-stays : (range : Range) → Apart start (length bytes) range → bytes_of (stores d new) range ≡ bytes_of (stores d old) range
-  range-stays range h =
+  pub range_stays : (range : Range) → Apart start (length bytes) range → bytes_of (stores d new) range ≡ bytes_of (stores d old) range
+  range_stays range h =
       ap (λ (l : List ℕ). bytes_of (stores d l) range) s.store
-      ∙ after_either (λ (l : List ℕ). bytes_of (stores d l) range ≡ bytes_of (stores d old) range) a start bytes old refl (apart-bytes old start bytes d range h)
+      ∙ after_either (λ (l : List ℕ). bytes_of (stores d l) range ≡ bytes_of (stores d old) range) a start bytes old refl (apart_bytes old start bytes d range h)
 
-  pub datagram-stays : (range : Range) → range.home ≡ Datagram → bytes_of (stores d new) range ≡ bytes_of (stores d old) range
-  datagram-stays range e = range-stays range (datagram_apart start (length bytes) range e)
+  pub datagram_stays : (range : Range) → range.home ≡ Datagram → bytes_of (stores d new) range ≡ bytes_of (stores d old) range
+  datagram_stays range e = range_stays range (datagram_apart start (length bytes) range e)
 
-  pub meaning-stays : (q : Packet) → Untouched start (length bytes) q (records_of q) → meaning (stores d new) q ≡ meaning (stores d old) q
-  meaning-stays q u =
+  pub meaning_stays : (q : Packet) → Untouched start (length bytes) q (records_of q) → meaning (stores d new) q ≡ meaning (stores d old) q
+  meaning_stays q u =
       ap (λ (l : List ℕ). meaning (stores d l) q) s.store
-      ∙ after_either (λ (l : List ℕ). meaning (stores d l) q ≡ meaning (stores d old) q) a start bytes old refl (meaning-apart old start bytes d q u)
+      ∙ after_either (λ (l : List ℕ). meaning (stores d l) q ≡ meaning (stores d old) q) a start bytes old refl (meaning_apart old start bytes d q u)

@@ -1,5 +1,6 @@
 // The content format and Observe of a packet: what their options say, and setting them (packet.rs).
 #![tactic(auto)]
+
 ghost use Rattle.rfc.specs.Uint.{uint};
 ghost use Rattle.refusal.specs.Answer.{answered};
 ghost use Rattle.packet.specs.Packet.{stores};

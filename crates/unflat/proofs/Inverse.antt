@@ -84,27 +84,27 @@ module _ (p : Packet) (shaped : Shaped p) (made : Made p) where
       rw (b, d, f, get_or-append-add head rs (4 * m) 0, get_or-append-add head rs (4 * m + 1) 0, get_or-append-add head rs (4 * m + 2) 0, get_or-append-add head rs (4 * m + 3) 0)
       (record_back (records_of p) m made.spare)
 
-  home-there : (m : ℕ) → get_or (flat p) (11 + 4 * m + 1) 0 ≤ 1
+  home_there : (m : ℕ) → get_or (flat p) (11 + 4 * m + 1) 0 ≤ 1
   unfolding flat
-  home-there m =
+  home_there m =
       let head = flat_head p.header p.token p.payload (length (records_of p)) in
       let b : 11 + 4 * m + 1 ≡ 11 + (4 * m + 1) = omega arith in
       rw (b, get_or-append-add head (flat_records (records_of p)) (4 * m + 1) 0) (a_home (records_of p) m)
 
-  records-back : (m : ℕ) → m ≤ length (records_of p) → records_in (flat p) m ≡ take m (records_of p)
-  records-back zero h = refl
-  records-back (suc m) h = rw (records-back m (omega arith), there m) (sym (take-suc (records_of p) m none h))
+  records_back : (m : ℕ) → m ≤ length (records_of p) → records_in (flat p) m ≡ take m (records_of p)
+  records_back zero h = refl
+  records_back (suc m) h = rw (records_back m (omega arith), there m) (sym (take-suc (records_of p) m none h))
 
   in_use : length (records_of p) ≡ p.count
   in_use = omega (arith, length-take p.count p.options, shaped.array, made.count)
 
-  count-back : get_or (flat p) 10 0 ≡ length (records_of p)
+  count_back : get_or (flat p) 10 0 ≡ length (records_of p)
   unfolding flat
-  count-back = refl
+  count_back = refl
 
-  good-head : bad_head (flat p) ≡ false
+  good_head : bad_head (flat p) ≡ false
   unfolding bad_head flat
-  good-head =
+  good_head =
       rw (le-ltb 255 p.header.version (omega (arith, made.version)), le-ltb 3 (number_of_type p.header.message_type) (omega (arith, type_small p.header.message_type)), le-ltb 255 (byte_of p.header.code) (omega (arith, shaped.code)), le-ltb 65535 p.header.message_id (omega (arith, shaped.id)), le-ltb 1 (number_of_home p.token.home) (home_small p.token.home), le-ltb 1 (number_of_home p.payload.home) (home_small p.payload.home), le-ltb 128 (length (records_of p)) (omega (arith, in_use, made.count)))
 
   good_record : (m : ℕ) → bad_record (flat p) (11 + 4 * m) ≡ false
@@ -113,25 +113,25 @@ module _ (p : Packet) (shaped : Shaped p) (made : Made p) where
       none_of (ltb 65535 (get_or (flat p) (11 + 4 * m) 0)) (ltb 1 (get_or (flat p) (11 + 4 * m + 1) 0))
       (le-ltb 65535 (get_or (flat p) (11 + 4 * m) 0)
       (rw (ap (λ (r : OptionRecord). r.number) (there m)) (number_small (records_of p) m (numbers_take p.count p.options shaped.numbers))))
-      (le-ltb 1 (get_or (flat p) (11 + 4 * m + 1) 0) (home-there m))
+      (le-ltb 1 (get_or (flat p) (11 + 4 * m + 1) 0) (home_there m))
 
-  good-numbers : (m : ℕ) → bad_numbers (flat p) m ≡ false
-  good-numbers zero = refl
-  good-numbers (suc m) = none_of (bad_numbers (flat p) m) (bad_record (flat p) (11 + 4 * m)) (good-numbers m) (good_record m)
+  good_numbers : (m : ℕ) → bad_numbers (flat p) m ≡ false
+  good_numbers zero = refl
+  good_numbers (suc m) = none_of (bad_numbers (flat p) m) (bad_record (flat p) (11 + 4 * m)) (good_numbers m) (good_record m)
 
-  good-flat : bad_flat (flat p) ≡ false
+  good_flat : bad_flat (flat p) ≡ false
   unfolding bad_flat bad_frame
-  good-flat =
-      rw (le-ltb (length (flat p)) 11 (omega (arith, flat_length p)), good-head, count-back, le-ltb (length (flat p)) (11 + 4 * length (records_of p)) (omega (arith, flat_length p)))
-      (good-numbers (length (records_of p)))
+  good_flat =
+      rw (le-ltb (length (flat p)) 11 (omega (arith, flat_length p)), good_head, count_back, le-ltb (length (flat p)) (11 + 4 * length (records_of p)) (omega (arith, flat_length p)))
+      (good_numbers (length (records_of p)))
 
-  options-back : records_in (flat p) (length (records_of p)) ++ replicate (128 - length (records_of p)) none ≡ p.options
-  options-back =
-      rw (records-back (length (records_of p)) (omega arith), take-length (records_of p), in_use, sym made.rest) (take-append-drop p.count p.options)
+  options_back : records_in (flat p) (length (records_of p)) ++ replicate (128 - length (records_of p)) none ≡ p.options
+  options_back =
+      rw (records_back (length (records_of p)) (omega arith), take-length (records_of p), in_use, sym made.rest) (take-append-drop p.count p.options)
 
-  packet-back : packet_in (flat p) ≡ p
+  packet_back : packet_in (flat p) ≡ p
   unfolding packet_in header_in flat
-  packet-back =
+  packet_back =
       λ i.
       record {
         header =
@@ -143,14 +143,14 @@ module _ (p : Packet) (shaped : Shaped p) (made : Made p) where
             };
         token = record { home = home_back p.token.home i; start = p.token.start; len = p.token.len };
         count = in_use i;
-        options = options-back i;
+        options = options_back i;
         payload = record { home = home_back p.payload.home i; start = p.payload.start; len = p.payload.len };
       }
 
   -- A packet that is made comes back from its flat form.
-  pub unflat-flat : unflat (flat p) ≡ given p
+  pub unflat_flat : unflat (flat p) ≡ given p
   unfolding unflat
-  unflat-flat = rw good-flat (ap given packet-back)
+  unflat_flat = rw good_flat (ap given packet_back)
 
 -- So many numbers from a place on.
 row : List ℕ → ℕ → ℕ → List ℕ
@@ -182,26 +182,26 @@ records_flat l (suc m) h e =
     ∙ rw (more, take-add (4 * m) 4 (drop 11 l), drop-drop (4 * m) 11 l, part_row l (11 + 4 * m) 4 (omega arith), records_flat l m (omega arith) parts.0, home, one, two, three)
 
 module _ (l : List ℕ) (bad : bad_flat l ≡ false) where
-  head-taken : flat_head (packet_in l).header (packet_in l).token (packet_in l).payload (get_or l 10 0) ≡ take 11 l
+  head_taken : flat_head (packet_in l).header (packet_in l).token (packet_in l).payload (get_or l 10 0) ≡ take 11 l
   unfolding packet_in header_in row
-  head-taken =
+  head_taken =
       let fields = small l (good l bad).fields in
       let low : get_or l 1 0 % 4 ≡ get_or l 1 0 = omega (arith, fields.type) in
       rw (number_back (get_or l 1 0), low, byte_back (get_or l 2 0), home_number (get_or l 4 0) fields.token, home_number (get_or l 7 0) fields.payload) (sym (part_row l 0 11 (omega (arith, (good l bad).head))))
 
   -- Numbers that are taken come back from their packet: the head's, and four for each record.
-  pub flat-packet : flat (packet_in l) ≡ take (11 + 4 * get_or l 10 0) l
+  pub flat_packet : flat (packet_in l) ≡ take (11 + 4 * get_or l 10 0) l
   unfolding flat
-  flat-packet =
+  flat_packet =
       let q = packet_in l in
       let n = get_or l 10 0 in
       ap (λ (rs : List OptionRecord). flat_head q.header q.token q.payload (length rs) ++ flat_records rs) (records_taken l)
       ∙ (ap (λ (k : ℕ). flat_head q.header q.token q.payload k ++ flat_records (records_in l n)) (records_length l n)
-      ∙ (ap (λ (h : List ℕ). h ++ flat_records (records_in l n)) head-taken
+      ∙ (ap (λ (h : List ℕ). h ++ flat_records (records_in l n)) head_taken
       ∙ (ap (λ (t : List ℕ). take 11 l ++ t) (records_flat l n (good l bad).records (good l bad).numbers) ∙ sym (take-add 11 (4 * n) l))))
 
 pub flat_unflat : (l : List ℕ) (p : Packet) → unflat l ≡ given p → flat p ≡ take (11 + 4 * p.count) l
 unfolding unflat packet_in
 flat_unflat l p =
     on (λ (a : Answer Packet). a ≡ given p → flat p ≡ take (11 + 4 * p.count) l) (bad_flat l) (λ t e. not_refused (sym e))
-    (λ t e. let q : packet_in l ≡ p = same_given e in rw (sym q) (flat-packet l t))
+    (λ t e. let q : packet_in l ≡ p = same_given e in rw (sym q) (flat_packet l t))

@@ -26,35 +26,35 @@ module _ (l rest : List ℕ) (bad : bad_flat l ≡ false) where
   same_head =
       rw (at 0 (omega arith), at 1 (omega arith), at 2 (omega arith), at 3 (omega arith), at 4 (omega arith), at 7 (omega arith), at 10 (omega arith)) (good l bad).fields
 
-  same-record : (at : ℕ) → at + 2 ≤ length l → bad_record (l ++ rest) at ≡ bad_record l at
+  same_record : (at : ℕ) → at + 2 ≤ length l → bad_record (l ++ rest) at ≡ bad_record l at
   unfolding bad_record
-  same-record at h = rw (same at (omega arith), same (at + 1) (omega arith))
+  same_record at h = rw (same at (omega arith), same (at + 1) (omega arith))
 
   same_numbers : (m : ℕ) → 11 + 4 * m ≤ length l → bad_numbers (l ++ rest) m ≡ bad_numbers l m
   same_numbers zero h = refl
-  same_numbers (suc m) h = rw (same_numbers m (omega arith), same-record (11 + 4 * m) (omega arith))
+  same_numbers (suc m) h = rw (same_numbers m (omega arith), same_record (11 + 4 * m) (omega arith))
 
-  same-records : (m : ℕ) → 11 + 4 * m ≤ length l → records_in (l ++ rest) m ≡ records_in l m
-  same-records zero h = refl
-  same-records (suc m) h =
-      rw (same-records m (omega arith), same (11 + 4 * m) (omega arith), same (11 + 4 * m + 1) (omega arith), same (11 + 4 * m + 2) (omega arith), same (11 + 4 * m + 3) (omega arith))
+  same_records : (m : ℕ) → 11 + 4 * m ≤ length l → records_in (l ++ rest) m ≡ records_in l m
+  same_records zero h = refl
+  same_records (suc m) h =
+      rw (same_records m (omega arith), same (11 + 4 * m) (omega arith), same (11 + 4 * m + 1) (omega arith), same (11 + 4 * m + 2) (omega arith), same (11 + 4 * m + 3) (omega arith))
 
-  longer-good : bad_flat (l ++ rest) ≡ false
+  longer_good : bad_flat (l ++ rest) ≡ false
   unfolding bad_flat bad_frame
-  longer-good =
+  longer_good =
       let g = good l bad in
       let long = length-append l rest in
       rw (le-ltb (length (l ++ rest)) 11 (omega (arith, g.head)), same_head, at 10 (omega arith), le-ltb (length (l ++ rest)) (11 + 4 * get_or l 10 0) (omega (arith, g.records)), same_numbers (get_or l 10 0) g.records)
       g.numbers
 
-  longer-packet : packet_in (l ++ rest) ≡ packet_in l
+  longer_packet : packet_in (l ++ rest) ≡ packet_in l
   unfolding packet_in header_in
-  longer-packet =
-      rw (at 0 (omega arith), at 1 (omega arith), at 2 (omega arith), at 3 (omega arith), at 4 (omega arith), at 5 (omega arith), at 6 (omega arith), at 7 (omega arith), at 8 (omega arith), at 9 (omega arith), at 10 (omega arith), same-records (get_or l 10 0) (good l bad).records)
+  longer_packet =
+      rw (at 0 (omega arith), at 1 (omega arith), at 2 (omega arith), at 3 (omega arith), at 4 (omega arith), at 5 (omega arith), at 6 (omega arith), at 7 (omega arith), at 8 (omega arith), at 9 (omega arith), at 10 (omega arith), same_records (get_or l 10 0) (good l bad).records)
 
 -- Numbers that are taken are taken alike at the start of more.
 pub longer : (l rest : List ℕ) (p : Packet) → unflat l ≡ given p → unflat (l ++ rest) ≡ given p
 unfolding unflat
 longer l rest p =
     on (λ (a : Answer Packet). a ≡ given p → unflat (l ++ rest) ≡ given p) (bad_flat l) (λ t e. not_refused (sym e))
-    (λ t e. rw (longer-good l rest t) (ap given (longer-packet l rest t) ∙ e))
+    (λ t e. rw (longer_good l rest t) (ap given (longer_packet l rest t) ∙ e))

@@ -1,5 +1,6 @@
 // A packet taken out of its flat form, which may stand at the start of a longer slice.
 #![tactic(auto)]
+
 ghost use Rattle.std.specs.Prelude.{◌≡◌, Bool, ◌+◌, ◌*◌, ◌≤◌, length, get_or};
 ghost use Rattle.refusal.specs.Answer.{beside};
 ghost use Rattle.packet.specs.Packet.{new_packet};

@@ -79,18 +79,18 @@ no_more kind index len only count low high b bad_text p e = refl
 no_more kind index len only count low high b (bad_option i) p e = absurd (p i refl)
 
 module _ (kind : Kind) (index : ℕ) (s : List ℕ) (count low high : ℕ) (only : Bool) (len i : ℕ) (w : Judging kind index s count low high only len i) where
-  pub judging-bad : decode kind (drop i s) ≡ bad_text → bad_text ≡ length_of (value_of kind index s)
+  pub judging_bad : decode kind (drop i s) ≡ bad_text → bad_text ≡ length_of (value_of kind index s)
   unfolding judged_from
-  judging-bad e = rw e at w.all
+  judging_bad e = rw e at w.all
 
-  pub judging-never : (b next : ℕ) → Took kind any s i b next → ((bs : List ℕ) → text_from (dues count low high) (b ∷ bs) ≡ false) → bad_text ≡ length_of (value_of kind index s)
-  judging-never b next t e =
+  pub judging_never : (b next : ℕ) → Took kind any s i b next → ((bs : List ℕ) → text_from (dues count low high) (b ∷ bs) ≡ false) → bad_text ≡ length_of (value_of kind index s)
+  judging_never b next t e =
       sym (no_more kind index len only count low high b (decode kind (drop next s)) (decode_plain kind any (drop next s)) e)
       ∙ (ap (judged_from kind index len only count low high) (sym t.is) ∙ w.all)
 
-  pub judging-turn : (b next c l h : ℕ) → Took kind any s i b next → ((bs : List ℕ) → text_from (dues count low high) (b ∷ bs) ≡ text_from (dues c l h) bs)
+  pub judging_turn : (b next c l h : ℕ) → Took kind any s i b next → ((bs : List ℕ) → text_from (dues count low high) (b ∷ bs) ≡ text_from (dues c l h) bs)
       → Judging kind index s c l h (both only (eqb b 0x2E)) (len + 1) next
-  judging-turn b next c l h t e =
+  judging_turn b next c l h t e =
       record {
         place = t.inside;
         small = omega (arith, t.ahead, w.small);

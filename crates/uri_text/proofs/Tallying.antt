@@ -77,15 +77,15 @@ module _ (sep : ℕ) (s : List ℕ) (from end : ℕ) (w : Seeking sep s from end
   unfolding first_length
   seek_found h e = sym (add-zero end) ∙ (ap (λ (n : ℕ). end + n) (sym (ap (first_length sep) (left_at s end h) ∙ rw (eq-eqb (get_or s end 0) sep e) refl)) ∙ w)
 
-  pub seek-turn : end < length s → (get_or s end 0 ≡ sep → ⊥) → Seeking sep s from (end + 1)
+  pub seek_turn : end < length s → (get_or s end 0 ≡ sep → ⊥) → Seeking sep s from (end + 1)
   unfolding first_length
-  seek-turn h e =
+  seek_turn h e =
       let k : first_length sep (drop end s) ≡ suc (first_length sep (drop (end + 1) s)) = ap (first_length sep) (left_at s end h) ∙ rw (ne_eqb (get_or s end 0) sep e) refl in
       omega (arith, k, w)
 
-  pub seek-end : length s ≤ end → end ≡ from + first_length sep (drop from s)
+  pub seek_end : length s ≤ end → end ≡ from + first_length sep (drop from s)
   unfolding first_length
-  seek-end h = sym (add-zero end) ∙ (ap (λ (x : List ℕ). end + first_length sep x) (sym (drop_of_length-le s h)) ∙ w)
+  seek_end h = sym (add-zero end) ∙ (ap (λ (x : List ℕ). end + first_length sep x) (sym (drop_of_length-le s h)) ∙ w)
 
 -- A part's answer, and the tally of it and the rest.
 tally_good : (v : List ℕ) (r : Read (List (List ℕ))) (count bytes : ℕ) → tally_from count bytes (before v r) ≡ tally_from (count + 1) (bytes + length v) r
@@ -156,11 +156,11 @@ value_small kind index n s e =
 
 module _ (kind : Kind) (sep passed weight : ℕ) (s : List ℕ) (from count bytes : ℕ) (w : PartsWalk kind sep passed weight s from count bytes)
     (end : ℕ) (found : end ≡ from + first_length sep (drop from s)) where
-  pub end-small : end ≤ length s
-  end-small = omega (arith, found, first_small sep (drop from s), length-drop from s, w.place)
+  pub end_small : end ≤ length s
+  end_small = omega (arith, found, first_small sep (drop from s), length-drop from s, w.place)
 
-  here-last : end ≡ length s → tally_from count bytes (on_good (value_of kind count (take (end - from) (drop from s))) (λ v. before v (good []))) ≡ tally_from passed weight (values_of kind passed (parts sep s))
-  here-last e =
+  here_last : end ≡ length s → tally_from count bytes (on_good (value_of kind count (take (end - from) (drop from s))) (λ v. before v (good []))) ≡ tally_from passed weight (values_of kind passed (parts sep s))
+  here_last e =
       let x : List ℕ = drop from s in
       let k : first_length sep x ≡ length x = omega (arith, found, length-drop from s, w.place) in
       let m : end - from ≡ length x = omega (arith, found, length-drop from s, w.place) in
@@ -168,10 +168,10 @@ module _ (kind : Kind) (sep passed weight : ℕ) (s : List ℕ) (from count byte
       ap (λ (p : List ℕ). tally_from count bytes (on_good (value_of kind count p) (λ v. before v (good [])))) t
       ∙ (ap (λ (ps : List (List ℕ)). tally_from count bytes (values_of kind count ps)) (sym (split_last sep x k)) ∙ w.all)
 
-  here-next : (end ≡ length s → ⊥) → tally_from count bytes (on_good (value_of kind count (take (end - from) (drop from s))) (λ v. before v (values_of kind (count + 1) (split sep (drop (end + 1) s))))) ≡ tally_from passed weight (values_of kind passed (parts sep s))
-  here-next e =
+  here_next : (end ≡ length s → ⊥) → tally_from count bytes (on_good (value_of kind count (take (end - from) (drop from s))) (λ v. before v (values_of kind (count + 1) (split sep (drop (end + 1) s))))) ≡ tally_from passed weight (values_of kind passed (parts sep s))
+  here_next e =
       let x : List ℕ = drop from s in
-      let k : first_length sep x < length x = omega (arith, found, length-drop from s, w.place, end-small) in
+      let k : first_length sep x < length x = omega (arith, found, length-drop from s, w.place, end_small) in
       let m : end - from ≡ first_length sep x = omega (arith, found) in
       let n : from + suc (first_length sep x) ≡ end + 1 = omega (arith, found) in
       let t : drop (suc (first_length sep x)) x ≡ drop (end + 1) s = drop-drop (suc (first_length sep x)) from s ∙ ap (λ (n : ℕ). drop n s) n in
@@ -179,17 +179,17 @@ module _ (kind : Kind) (sep passed weight : ℕ) (s : List ℕ) (from count byte
       split_next sep x k ∙ (ap (λ (n : ℕ). take n x ∷ split sep (drop (suc (first_length sep x)) x)) (sym m) ∙ ap (λ (y : List ℕ). take (end - from) x ∷ split sep y) t) in
       ap (λ (ps : List (List ℕ)). tally_from count bytes (values_of kind count ps)) (sym q) ∙ w.all
 
-  pub walk-text : bad_text ≡ length_of (value_of kind count (take (end - from) (drop from s))) → bad_text ≡ tally_from passed weight (values_of kind passed (parts sep s))
-  walk-text q =
+  pub walk_text : bad_text ≡ length_of (value_of kind count (take (end - from) (drop from s))) → bad_text ≡ tally_from passed weight (values_of kind passed (parts sep s))
+  walk_text q =
       by_eq end (length s)
-      (λ e. tally_text (value_of kind count (take (end - from) (drop from s))) (good []) count bytes q ∙ here-last e)
-      (λ e. tally_text (value_of kind count (take (end - from) (drop from s))) (values_of kind (count + 1) (split sep (drop (end + 1) s))) count bytes q ∙ here-next e)
+      (λ e. tally_text (value_of kind count (take (end - from) (drop from s))) (good []) count bytes q ∙ here_last e)
+      (λ e. tally_text (value_of kind count (take (end - from) (drop from s))) (values_of kind (count + 1) (split sep (drop (end + 1) s))) count bytes q ∙ here_next e)
 
-  pub walk-option : (i : ℕ) → bad_option i ≡ length_of (value_of kind count (take (end - from) (drop from s))) → bad_option i ≡ tally_from passed weight (values_of kind passed (parts sep s))
-  walk-option i q =
+  pub walk_option : (i : ℕ) → bad_option i ≡ length_of (value_of kind count (take (end - from) (drop from s))) → bad_option i ≡ tally_from passed weight (values_of kind passed (parts sep s))
+  walk_option i q =
       by_eq end (length s)
-      (λ e. tally_option i (value_of kind count (take (end - from) (drop from s))) (good []) count bytes q ∙ here-last e)
-      (λ e. tally_option i (value_of kind count (take (end - from) (drop from s))) (values_of kind (count + 1) (split sep (drop (end + 1) s))) count bytes q ∙ here-next e)
+      (λ e. tally_option i (value_of kind count (take (end - from) (drop from s))) (good []) count bytes q ∙ here_last e)
+      (λ e. tally_option i (value_of kind count (take (end - from) (drop from s))) (values_of kind (count + 1) (split sep (drop (end + 1) s))) count bytes q ∙ here_next e)
 
   module _ (n : ℕ) (q : good n ≡ length_of (value_of kind count (take (end - from) (drop from s)))) where
     pub part_small : from + n ≤ end
@@ -203,15 +203,15 @@ module _ (kind : Kind) (sep passed weight : ℕ) (s : List ℕ) (from count byte
         let b : bytes + n ≡ bytes + n + 0 = omega arith in
         ap (λ (c : ℕ). good (record { count = c; bytes = bytes + n })) a
         ∙ (ap (λ (c : ℕ). good (record { count = count + 1 + 0; bytes = c })) b
-        ∙ (sym (tally_step (value_of kind count (take (end - from) (drop from s))) (good []) count bytes n q) ∙ here-last e))
+        ∙ (sym (tally_step (value_of kind count (take (end - from) (drop from s))) (good []) count bytes n q) ∙ here_last e))
 
     pub walk_turn : (end ≡ length s → ⊥) → PartsWalk kind sep passed weight s (end + 1) (count + 1) (bytes + n)
     walk_turn e =
         record {
-          place = omega (arith, end-small);
+          place = omega (arith, end_small);
           few = omega (arith, found, w.few);
           small = omega (arith, part_small, w.small);
-          all = sym (tally_step (value_of kind count (take (end - from) (drop from s))) (values_of kind (count + 1) (split sep (drop (end + 1) s))) count bytes n q) ∙ here-next e;
+          all = sym (tally_step (value_of kind count (take (end - from) (drop from s))) (values_of kind (count + 1) (split sep (drop (end + 1) s))) count bytes n q) ∙ here_next e;
         }
 
 -- A text's tally from its path's and its query's.
@@ -250,21 +250,21 @@ split_count : (sep : ℕ) (s : List ℕ) → length (split sep s) ≤ suc (lengt
 unfolding split
 split_count sep [] = omega arith
 split_count sep (c ∷ s) =
-    on (λ (ps : List (List ℕ)). length ps ≤ suc (suc (length s))) (eqb c sep) (λ _. omega (arith, split_count sep s)) (λ _. onto-count (split sep s) (split_count sep s))
+    on (λ (ps : List (List ℕ)). length ps ≤ suc (suc (length s))) (eqb c sep) (λ _. omega (arith, split_count sep s)) (λ _. onto_count (split sep s) (split_count sep s))
   where
-    onto-count : (ps : List (List ℕ)) → length ps ≤ suc (length s) → length (onto c ps) ≤ suc (suc (length s))
-    onto-count [] h = omega arith
-    onto-count (p ∷ ps) h = omega arith
+    onto_count : (ps : List (List ℕ)) → length ps ≤ suc (length s) → length (onto c ps) ≤ suc (suc (length s))
+    onto_count [] h = omega arith
+    onto_count (p ∷ ps) h = omega arith
 
 split_total : (sep : ℕ) (s : List ℕ) → total (split sep s) ≤ length s
 unfolding split
 split_total sep [] = omega arith
 split_total sep (c ∷ s) =
-    on (λ (ps : List (List ℕ)). total ps ≤ suc (length s)) (eqb c sep) (λ _. omega (arith, split_total sep s)) (λ _. onto-total (split sep s) (split_total sep s))
+    on (λ (ps : List (List ℕ)). total ps ≤ suc (length s)) (eqb c sep) (λ _. omega (arith, split_total sep s)) (λ _. onto_total (split sep s) (split_total sep s))
   where
-    onto-total : (ps : List (List ℕ)) → total ps ≤ length s → total (onto c ps) ≤ suc (length s)
-    onto-total [] h = omega arith
-    onto-total (p ∷ ps) h = omega arith
+    onto_total : (ps : List (List ℕ)) → total ps ≤ length s → total (onto c ps) ≤ suc (length s)
+    onto_total [] h = omega arith
+    onto_total (p ∷ ps) h = omega arith
 
 values_few : (kind : Kind) (index : ℕ) (ss vs : List (List ℕ)) → values_of kind index ss ≡ good vs → (length vs ≡ length ss) × (total vs ≤ total ss)
 values_few kind index [] vs e =
@@ -322,39 +322,39 @@ module _ (s : List ℕ) (mark : ℕ) (found : mark ≡ 0 + first_length 0x3F s) 
   at_mark : mark ≡ first_length 0x3F s
   at_mark = found ∙ zero-add (first_length 0x3F s)
 
-  pub mark-inside : mark ≤ length s
-  mark-inside = omega (arith, at_mark, first_small 0x3F s)
+  pub mark_inside : mark ≤ length s
+  mark_inside = omega (arith, at_mark, first_small 0x3F s)
 
-  path-is : take (mark - 0) s ≡ path_of s
-  path-is = ap (λ (n : ℕ). take n s) (sub-zero mark ∙ at_mark) ∙ sym (path_take s)
+  path_is : take (mark - 0) s ≡ path_of s
+  path_is = ap (λ (n : ℕ). take n s) (sub-zero mark ∙ at_mark) ∙ sym (path_take s)
 
   -- The tally of the path that stands before the mark.
   abbrev PathTally : Read Tally → Type 0
   PathTally r = r ≡ tally_from 0 0 (on_good (segments_of (take (mark - 0) s)) (values_of segment 0))
 
   moved : (r : Read Tally) → PathTally r → r ≡ tally_from 0 0 (on_good (segments_of (path_of s)) (values_of segment 0))
-  moved r e = e ∙ ap (λ (p : List ℕ). tally_from 0 0 (on_good (segments_of p) (values_of segment 0))) path-is
+  moved r e = e ∙ ap (λ (p : List ℕ). tally_from 0 0 (on_good (segments_of p) (values_of segment 0))) path_is
 
-  pub text-bad : PathTally bad_text → bad_text ≡ tally (reading s)
-  text-bad e = tally_bad s (on_good (segments_of (path_of s)) (values_of segment 0)) (moved bad_text e) ∙ ap tally (sym (reading_by s))
+  pub text_bad : PathTally bad_text → bad_text ≡ tally (reading s)
+  text_bad e = tally_bad s (on_good (segments_of (path_of s)) (values_of segment 0)) (moved bad_text e) ∙ ap tally (sym (reading_by s))
 
-  pub text-option : (i : ℕ) → PathTally (bad_option i) → bad_option i ≡ tally (reading s)
-  text-option i e =
+  pub text_option : (i : ℕ) → PathTally (bad_option i) → bad_option i ≡ tally (reading s)
+  text_option i e =
       tally_bad_option i s (on_good (segments_of (path_of s)) (values_of segment 0)) (moved (bad_option i) e) ∙ ap tally (sym (reading_by s))
 
   module _ (count bytes : ℕ) (e : PathTally (good (record { count = count; bytes = bytes }))) where
-    pub few-segments : (count ≤ mark) × (bytes ≤ mark)
-    few-segments =
+    pub few_segments : (count ≤ mark) × (bytes ≤ mark)
+    few_segments =
         let f = path_few (take (mark - 0) s) (record { count = count; bytes = bytes }) e in
         let n = length-take (mark - 0) s in
         (omega (arith, f.0, n), omega (arith, f.1, n))
 
-    pub text-turn : tally_from count bytes (values_of query count (parts 0x26 (drop (mark + 1) s))) ≡ tally (reading s)
-    text-turn =
+    pub text_turn : tally_from count bytes (values_of query count (parts 0x26 (drop (mark + 1) s))) ≡ tally (reading s)
+    text_turn =
         ap (λ (x : List ℕ). tally_from count bytes (values_of query count (parts 0x26 x))) (ap (λ (n : ℕ). drop n s) (add-one mark ∙ ap suc at_mark) ∙ sym (query_drop s))
         ∙ (with_query s (on_good (segments_of (path_of s)) (values_of segment 0)) (record { count = count; bytes = bytes }) (moved (good (record { count = count; bytes = bytes })) e)
         ∙ ap tally (sym (reading_by s)))
 
-    pub text-end : mark ≡ length s → good (record { count = count; bytes = bytes }) ≡ tally (reading s)
-    text-end h =
-        parts_none query 0x26 count bytes (drop (mark + 1) s) (length-drop (mark + 1) s ∙ omega arith) ∙ text-turn
+    pub text_end : mark ≡ length s → good (record { count = count; bytes = bytes }) ≡ tally (reading s)
+    text_end h =
+        parts_none query 0x26 count bytes (drop (mark + 1) s) (length-drop (mark + 1) s ∙ omega arith) ∙ text_turn

@@ -1,5 +1,6 @@
 // The path and query text of a coap URI, judged part by part: how many options it makes, and how many bytes their values have.
 #![tactic(auto)]
+
 ghost use Rattle.std.specs.Prelude.{◌≡◌, ◌+◌, ◌<◌, eqb, length, drop};
 ghost use Rattle.ground.specs.Choice.{both};
 ghost use Rattle.rfc.specs.Uri.{segment};

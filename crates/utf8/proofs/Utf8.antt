@@ -121,16 +121,16 @@ module _ {bs : List ℕ} {count low high i : ℕ} (more : i < length bs) (s : Ju
   unfolding text_from
   first_byte c l h z e = record { place = omega arith; all = rw e at (first z) }
 
-  pub no-first-byte : count ≡ 0 → lead (get_or bs i 0) ≡ never → false ≡ text bs
+  pub no_first_byte : count ≡ 0 → lead (get_or bs i 0) ≡ never → false ≡ text bs
   unfolding text_from
-  no-first-byte z e = rw e at (first z)
+  no_first_byte z e = rw e at (first z)
 
-  pub next-byte : (count ≡ 0 → ⊥) → low ≤ get_or bs i 0 → get_or bs i 0 ≤ high → Judging bs (count - 1) 0x80 0xBF (i + 1)
-  next-byte z l h =
+  pub next_byte : (count ≡ 0 → ⊥) → low ≤ get_or bs i 0 → get_or bs i 0 ≤ high → Judging bs (count - 1) 0x80 0xBF (i + 1)
+  next_byte z l h =
       record { place = omega arith; all = rw (le-leb low (get_or bs i 0) l, le-leb (get_or bs i 0) high h) at (next z) }
 
-  pub byte-below : (count ≡ 0 → ⊥) → get_or bs i 0 < low → false ≡ text bs
-  byte-below z l = rw (lt-leb low (get_or bs i 0) l) at (next z)
+  pub byte_below : (count ≡ 0 → ⊥) → get_or bs i 0 < low → false ≡ text bs
+  byte_below z l = rw (lt-leb low (get_or bs i 0) l) at (next z)
 
   pub byte_above : (count ≡ 0 → ⊥) → low ≤ get_or bs i 0 → high < get_or bs i 0 → false ≡ text bs
   byte_above z l h = rw (le-leb low (get_or bs i 0) l, lt-leb (get_or bs i 0) high h) at (next z)

@@ -1,5 +1,6 @@
 // UTF-8 text: the bytes are judged one by one, by the row of the grammar that a first byte has (RFC 3629, section 4).
 #![tactic(auto)]
+
 ghost use Rattle.std.specs.Prelude.{◌≡◌};
 ghost use Rattle.utf8.specs.Walk.{text, lead};
 ghost use Rattle.utf8.specs.Row.{led_by};

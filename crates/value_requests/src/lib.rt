@@ -1,5 +1,6 @@
 // Requests on uints, texts and the numbers of options and content formats.
 #![tactic(auto)]
+
 mod numbers;
 mod texts;
 mod uints;

@@ -1,5 +1,6 @@
 // How far a pass over an input has come, message by message through a window.
 #![tactic(auto)]
+
 use refusal::{Outcome, Refusal};
 use reports::{flushed, spill};
 

@@ -2,6 +2,7 @@
 // What is not there ends NOWHERE, and nothing is found from there on, so a row of readings is judged by where its last
 // one ends. A line has one newline, which is its last byte.
 #![tactic(auto)]
+
 mod arguments;
 mod bytes;
 mod line;

@@ -17,7 +17,7 @@ use Rattle.packet.specs.declared.Packet.{Packet}
 use Rattle.judging.proofs.Good.{good}
 use Rattle.measuring.specs.Measuring.{strictly, limited, counted, size_fitted, measured}
 use Rattle.measuring.specs.declared.Limit.{Limit}
-use Rattle.measuring.proofs.Sizes.{Fits, measured-fits}
+use Rattle.measuring.proofs.Sizes.{Fits, measured_fits}
 use Rattle.writing.specs.Writing.{bytes_written, writing, ToBytes}
 use Rattle.writing.proofs.Sizes.{written_length}
 
@@ -42,7 +42,7 @@ module _ (strict : Bool) (limit : Limit) (p : Packet) (s : Stores) (old : List �
   module _ (n : ℕ) (e : measured strict limit (length old) (lengths_of s) p ≡ given n) where
     -- A length is that of the bytes of a good packet, and there is room for them.
     fits : Fits strict (length old) (lengths_of s) p n
-    fits = measured-fits strict limit (length old) (lengths_of s) p n e
+    fits = measured_fits strict limit (length old) (lengths_of s) p n e
 
     same : n ≡ length (bytes_written strict s p)
     same = fits.size ∙ sym (written_length strict s p (good (lengths_of s) p fits.good))

@@ -10,17 +10,17 @@ use borrow.Author.Tests.{ltb-false}
 use Rattle.rfc.specs.Message.{option_layout, options_layout}
 use Rattle.ground.proofs.Choice.{on_le, neither}
 use Rattle.placing.specs.Put.{Put}
-use Rattle.placing.proofs.Puts.{put-none, put_length, put_put}
+use Rattle.placing.proofs.Puts.{put_none, put_length, put_put}
 use Rattle.refusal.specs.Answer.{given, written}
 use Rattle.refusal.specs.declared.Written.{Written}
 use Rattle.laying.specs.Laying.{laid_option, LaysOption}
-use Rattle.laying.proofs.Laid.{option_laid, lays-put}
+use Rattle.laying.proofs.Laid.{option_laid, lays_put}
 use Rattle.packet.specs.Packet.{Stores, store_of, bytes_in, value_of}
 use Rattle.packet.specs.Meaning.{option_of}
 use Rattle.judging.specs.Judge.{lengths_of, falling, bad_value, bad_values}
 use Rattle.packet.specs.declared.OptionRecord.{OptionRecord}
-use Rattle.judging.proofs.Good.{value-length}
-use Rattle.judging.proofs.Order.{falls-later}
+use Rattle.judging.proofs.Good.{value_length}
+use Rattle.judging.proofs.Order.{falls_later}
 
 -- A range names at most as many bytes as it says.
 pub bytes_at_most : (s : List ℕ) (start len : ℕ) → length (bytes_in s start len) ≤ len
@@ -56,25 +56,25 @@ module _ (s : Stores) (rs : List OptionRecord) (old : List ℕ) (from : ℕ) whe
       good = neither (bad_value (lengths_of s) r) (bad_values (lengths_of s) (drop (i + 1) rs)) (ap (bad_values (lengths_of s)) (sym d) ∙ w.values)
 
       pub short : length (value_of s r) ≤ 65804
-      short = omega (arith, bytes_at_most (store_of s r.home) r.start r.len, value-length (lengths_of s) r good.0)
+      short = omega (arith, bytes_at_most (store_of s r.home) r.start r.len, value_length (lengths_of s) r good.0)
 
       pub room : next + length (option_layout before (option_of s r)) ≤ length out
       room = omega (arith, w.kept, w.fits, simp length-append at (ap length split))
 
       -- So it is laid, and then the others are left.
-      pub option-given : laid_option before (option_of s r) (length out) next ≡ given (length (option_layout before (option_of s r)))
-      option-given = option_laid before (option_of s r) (length out) next rises short room
+      pub option_given : laid_option before (option_of s r) (length out) next ≡ given (length (option_layout before (option_of s r)))
+      option_given = option_laid before (option_of s r) (length out) next rises short room
 
       pub turn : (piece : Written) (n : ℕ) (new : List ℕ) → LaysOption before (option_of s r) next out piece new → written piece ≡ given n → Putting s rs old from new r.number (next + n) (i + 1)
       turn piece n new l e =
-          let p = lays-put _ next _ out piece n new option-given l e in
+          let p = lays_put _ next _ out piece n new option_given l e in
           record {
             fits = omega (arith, p.next, w.fits, simp length-append at (ap length split));
             kept = put_length out new _ next (next + n) p ∙ w.kept;
-            ordered = sym (falls-later before _ r _ d rises) ∙ w.ordered;
+            ordered = sym (falls_later before _ r _ d rises) ∙ w.ordered;
             values = good.1;
             whole = λ k m q. w.whole k m (rw split (put_put _ _ _ _ _ _ _ _ p q));
           }
 
     pub all : drop i rs ≡ [] → Put old from (leftover s rs 0 0) next out
-    all e = w.whole next out (rw (ap (λ (l : List OptionRecord). options_layout before (map (option_of s) l)) e) (put-none out next))
+    all e = w.whole next out (rw (ap (λ (l : List OptionRecord). options_layout before (map (option_of s) l)) e) (put_none out next))

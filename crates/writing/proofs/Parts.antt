@@ -18,7 +18,7 @@ use Rattle.packet.specs.declared.Packet.{Packet}
 use Rattle.judging.proofs.Good.{Good, good}
 use Rattle.laying.specs.Laying.{laid, head_layout, laid_header, LaysHeader, LaysPayload}
 use Rattle.laying.proofs.Pieces.{layout_pieces}
-use Rattle.laying.proofs.Laid.{laid_room, head_length, header_laid, lays-put}
+use Rattle.laying.proofs.Laid.{laid_room, head_length, header_laid, lays_put}
 use Rattle.writing.specs.Writing.{sent, bytes_written}
 use Rattle.judging.proofs.Ranges.{range_exactly}
 use Rattle.writing.proofs.Sizes.{message_length}
@@ -40,22 +40,22 @@ module _ (strict : Bool) (s : Stores) (p : Packet) (old : List ℕ) (e : bad_pac
   parts = omega (arith, room, message_length message)
 
   -- Header and token are laid.
-  pub head-given : laid_header p.header message.token (length old) ≡ given (length (head_layout p.header message.token))
-  head-given =
+  pub head_given : laid_header p.header message.token (length old) ≡ given (length (head_layout p.header message.token))
+  head_given =
       header_laid p.header message.token (length old) sound.version
       (omega (arith, range_exactly s p.token sound.token, sound.token_length))
       (omega (arith, parts, head_length p.header message.token))
 
   module _ (piece : Written) (k : ℕ) (mid : List ℕ) (l : LaysHeader p.header message.token old piece mid) (w : written piece ≡ given k) where
     head : Put old 0 (head_layout p.header message.token) k mid
-    head = rw (zero-add k) at (lays-put _ 0 _ old piece k mid head-given l w)
+    head = rw (zero-add k) at (lays_put _ 0 _ old piece k mid head_given l w)
 
-    pub head-kept : length mid ≡ length old
-    head-kept = put_length _ _ _ _ _ head
+    pub head_kept : length mid ≡ length old
+    head_kept = put_length _ _ _ _ _ head
 
     -- The options end within the message.
-    pub options-within : k + length options ≤ length (bytes_written strict s p)
-    options-within = omega (arith, head.next, head_length p.header message.token, message_length message)
+    pub options_within : k + length options ≤ length (bytes_written strict s p)
+    options_within = omega (arith, head.next, head_length p.header message.token, message_length message)
 
     -- Then the options begin.
     pub begin : Putting s (records_of p) mid k mid 0 k 0
@@ -64,14 +64,14 @@ module _ (strict : Bool) (s : Stores) (p : Packet) (old : List ℕ) (e : bad_pac
 
     -- After them the payload is laid.
     module _ (out : List ℕ) (next : ℕ) (o : Put mid k options next out) where
-      pub last-room : next + length (payload_layout message.payload) ≤ length out
-      last-room = omega (arith, parts, head.next, head_length p.header message.token, put_length _ _ _ _ _ head, o.next, put_length _ _ _ _ _ o)
+      pub last_room : next + length (payload_layout message.payload) ≤ length out
+      last_room = omega (arith, parts, head.next, head_length p.header message.token, put_length _ _ _ _ _ head, o.next, put_length _ _ _ _ _ o)
 
-      pub last-given : laid (length out) next (payload_layout message.payload) ≡ given (length (payload_layout message.payload))
-      last-given = laid_room (length out) next (payload_layout message.payload) last-room
+      pub last_given : laid (length out) next (payload_layout message.payload) ≡ given (length (payload_layout message.payload))
+      last_given = laid_room (length out) next (payload_layout message.payload) last_room
 
       -- And all is put.
       pub whole : (final : Written) (n : ℕ) (new : List ℕ) → LaysPayload message.payload next out final new → written final ≡ given n → Put old 0 (bytes_written strict s p) (next + n) new
       whole final n new m v =
           rw (sym (layout_pieces p.header message.token message.options message.payload))
-          (put_put _ _ _ _ _ _ _ _ head (put_put _ _ _ _ _ _ _ _ o (lays-put _ next _ out final n new last-given m v)))
+          (put_put _ _ _ _ _ _ _ _ head (put_put _ _ _ _ _ _ _ _ o (lays_put _ next _ out final n new last_given m v)))

@@ -24,10 +24,10 @@ use Rattle.packet.specs.declared.Packet.{Packet}
 use Rattle.packet.specs.declared.Home.{Home}
 use Rattle.packet.specs.declared.Home.TheVariants.{Datagram, Edits}
 use Rattle.packet.specs.declared.OptionRecord.{OptionRecord}
-use Rattle.judging.proofs.Good.{Good, good, value-length}
+use Rattle.judging.proofs.Good.{Good, good, value_length}
 use Rattle.measuring.specs.Measuring.{strictly, limited, counted, over, empty_carries}
 use Rattle.measuring.specs.declared.Limit.{Limit}
-use Rattle.measuring.proofs.Sizes.{measured-good}
+use Rattle.measuring.proofs.Sizes.{measured_good}
 use Rattle.writing.specs.Writing.{writing, bytes_written, Held}
 use Rattle.writing.proofs.Options.{bytes_at_most}
 use Rattle.judging.proofs.Ranges.{range_exactly}
@@ -83,7 +83,7 @@ pub options : (s : Stores) (rs : List OptionRecord) → Held s → Numbers rs �
 options s [] b n e = tt
 options s (r ∷ rs) b n e =
     let both = neither (bad_value (lengths_of s) r) (bad_values (lengths_of s) rs) e in
-    (omega (arith, n.0), omega (arith, bytes_at_most (store_of s r.home) r.start r.len, value-length (lengths_of s) r both.0), bytes_named (store_of s r.home) r.start r.len (held s r.home b), options s rs b n.1 both.1)
+    (omega (arith, n.0), omega (arith, bytes_at_most (store_of s r.home) r.start r.len, value_length (lengths_of s) r both.0), bytes_named (store_of s r.home) r.start r.len (held s r.home b), options s rs b n.1 both.1)
 
 numbers_take : (n : ℕ) (rs : List OptionRecord) → Numbers rs → Numbers (take n rs)
 numbers_take zero rs h = tt
@@ -108,8 +108,8 @@ module _ (s : Stores) (p : Packet) where
 
   module _ (shaped : Shaped p) (g : Good (lengths_of s) p) where
     -- What passes strict mode means a well-formed message.
-    pub strict-wellformed : Held s → Passed p → WellFormed (meaning s p)
-    strict-wellformed b h =
+    pub strict_wellformed : Held s → Passed p → WellFormed (meaning s p)
+    strict_wellformed b h =
         record {
           version = h.version;
           type = omega (arith, type_small p.header.message_type);
@@ -125,20 +125,20 @@ module _ (s : Stores) (p : Packet) where
         }
 
     -- A bare message has no token, no records and no payload.
-    carries-none : Bare (meaning s p) → either (ltb 0 p.token.len) (either (ltb 0 p.count) (ltb 0 p.payload.len)) ≡ false
-    carries-none m =
+    carries_none : Bare (meaning s p) → either (ltb 0 p.token.len) (either (ltb 0 p.count) (ltb 0 p.payload.len)) ≡ false
+    carries_none m =
         let t : p.token.len ≡ 0 = sym (range_exactly s p.token g.token) ∙ ap length m.token in
         let q : p.payload.len ≡ 0 = sym (range_exactly s p.payload g.payload) ∙ ap length m.payload in
         let k : p.count ≡ 0 = omega (arith, length-take p.count p.options, sym (length-map (records_of p) (option_of s)) ∙ ap length m.options, g.count, shaped.array) in
         rw (t, k, q)
 
     -- A well-formed message passes strict mode.
-    pub wellformed-strict : WellFormed (meaning s p) → Passed p
-    wellformed-strict w =
+    pub wellformed_strict : WellFormed (meaning s p) → Passed p
+    wellformed_strict w =
         record {
           version = w.version;
           token = omega (arith, range_exactly s p.token g.token, w.token_length);
-          empty = on_eq (λ (b : Bool). b ≡ false) (byte_of p.header.code) 0 (λ z. carries-none (w.empty z)) (λ z. refl);
+          empty = on_eq (λ (b : Bool). b ≡ false) (byte_of p.header.code) 0 (λ z. carries_none (w.empty z)) (λ z. refl);
         }
 
 -- What strict writing asks of a packet over two stores: no cause of 10 or 11, a well-formed message, and that limit and room
@@ -167,24 +167,24 @@ ended limit room size bytes n =
 
 module _ (limit : Limit) (room : ℕ) (s : Stores) (p : Packet) (shaped : Shaped p) where
   -- Strict writing accepts what is writable, and answers the length of its layout.
-  pub strict-writes : Writable limit room s p → writing true limit room s p ≡ given (length (layout (meaning s p)))
+  pub strict_writes : Writable limit room s p → writing true limit room s p ≡ given (length (layout (meaning s p)))
   unfolding limited
-  strict-writes w =
+  strict_writes w =
       let g = good (lengths_of s) p w.records in
       let n = strict_counted s p g in
       writing_measured true limit room s p
-      ∙ (measured-good true limit room (lengths_of s) p w.store w.records
-      ∙ rw (passes p (wellformed-strict s p shaped g w.wellformed), sym (ap (over limit) n) ∙ w.within, sym n, le-ltb room (length (layout (meaning s p))) w.fits))
+      ∙ (measured_good true limit room (lengths_of s) p w.store w.records
+      ∙ rw (passes p (wellformed_strict s p shaped g w.wellformed), sym (ap (over limit) n) ∙ w.within, sym n, le-ltb room (length (layout (meaning s p))) w.fits))
 
   -- The output then begins with the layout of what the packet means.
-  pub strict-output : Writable limit room s p → (old : List ℕ) → length (layout (meaning s p)) ≤ length old → after (writing true limit room s p) 0 (bytes_written true s p) old ≡ layout (meaning s p) ++ drop (length (layout (meaning s p))) old
-  strict-output w old fits = rw (strict-writes w) (put_front old (layout (meaning s p)) fits)
+  pub strict_output : Writable limit room s p → (old : List ℕ) → length (layout (meaning s p)) ≤ length old → after (writing true limit room s p) 0 (bytes_written true s p) old ≡ layout (meaning s p) ++ drop (length (layout (meaning s p))) old
+  strict_output w old fits = rw (strict_writes w) (put_front old (layout (meaning s p)) fits)
 
   -- It accepts nothing else, and no other length is its answer.
-  pub strict-written : Held s → (n : ℕ) → writing true limit room s p ≡ given n → Writable limit room s p × (n ≡ length (layout (meaning s p)))
-  strict-written b n e =
+  pub strict_written : Held s → (n : ℕ) → writing true limit room s p ≡ given n → Writable limit room s p × (n ≡ length (layout (meaning s p)))
+  strict_written b n e =
       let first = began limit room s p n e in
       let g = good (lengths_of s) p first.1 in
       let second = onward_given (strictly true p) (λ _. limited limit (counted true p) (fitted room (layout (meaning s p)))) n first.2 in
       let third = ended limit room (counted true p) (layout (meaning s p)) n second.2 in
-      (record { store = first.0; records = first.1; wellformed = strict-wellformed s p shaped g b (passed p second.1); within = ap (over limit) (strict_counted s p g) ∙ third.0; fits = third.1 }, third.2)
+      (record { store = first.0; records = first.1; wellformed = strict_wellformed s p shaped g b (passed p second.1); within = ap (over limit) (strict_counted s p g) ∙ third.0; fits = third.1 }, third.2)

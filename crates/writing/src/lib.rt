@@ -1,5 +1,6 @@
 // Writing a packet to bytes, plain and strict (Packet::to_bytes of packet.rs).
 #![tactic(auto)]
+
 ghost use Rattle.std.specs.Prelude.{◌≡◌, Bool, false, ℕ, ◌≤◌, length};
 ghost use Rattle.refusal.specs.Answer.{given, written};
 ghost use Rattle.placing.specs.Put.{Put};

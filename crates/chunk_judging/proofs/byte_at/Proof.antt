@@ -3,7 +3,7 @@ use Prim.Native.Nat.{ℕ, ◌+◌, ◌-◌, ◌<◌}
 use mathlib.Core.Path.{sym, ap, ◌∙◌}
 use native.Mathlib.Omega.{arith}
 use lib.ListN.{length, get_or}
-use Rattle.chunk_judging.proofs.Places.{offset_rises, gathered-at}
+use Rattle.chunk_judging.proofs.Places.{offset_rises, gathered_at}
 use borrow.Author.Rules.{rules}
 use Rattle.chunk_judging.proofs.byte_at.Statement.{statement}
 use Rattle.chunk_judging.proofs.byte_at.Tie as tie
@@ -34,7 +34,7 @@ returns c =
     let o = c.before.before in
     let a = o.before.before.args in
     record {
-      is = ap (λ (i : ℕ). get_or a.stream.now (a.d.from + i) 0) o.offset-of.ensures ∙ sym (gathered-at a.d.form a.stream.now a.d.from a.d.len a.idx o.before.before.requires.1);
+      is = ap (λ (i : ℕ). get_or a.stream.now (a.d.from + i) 0) o.offset-of.ensures ∙ sym (gathered_at a.d.form a.stream.now a.d.from a.d.len a.idx o.before.before.requires.1);
       small = omega (arith, c.shared-slice-known2.given (place o));
     }
 

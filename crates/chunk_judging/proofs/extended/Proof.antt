@@ -1,7 +1,7 @@
 -- `extended`: by the nibble, and by what is left for its extension.
 use borrow.Author.Tests.{lt-ltb, le-ltb, eq-eqb, ne_eqb}
 use Rattle.option_reading.specs.Option.{extended}
-use Rattle.chunk_judging.proofs.Places.{gathered-length}
+use Rattle.chunk_judging.proofs.Places.{gathered_length}
 use borrow.Author.Rules.{rules}
 use Rattle.chunk_judging.proofs.extended.Statement.{statement}
 use Rattle.chunk_judging.proofs.extended.Tie as tie
@@ -15,7 +15,7 @@ sub-if3 c = search rules
 
 returns-2 : tie.Need-returns-2
 unfolding extended
-returns-2 c = rw (le-ltb _ _ c.before.before.before.if1.false, eq-eqb _ _ c.before.before.if2.true, gathered-length, lt-ltb _ _ c.if3.true)
+returns-2 c = rw (le-ltb _ _ c.before.before.before.if1.false, eq-eqb _ _ c.before.before.if2.true, gathered_length, lt-ltb _ _ c.if3.true)
 
 byte-at-requires : tie.Need-byte-at-requires
 byte-at-requires c κs = search rules
@@ -28,14 +28,14 @@ add-t13 c = search rules
 
 returns-3 : tie.Need-returns-3
 unfolding extended
-returns-3 c = rw (le-ltb _ _ c.before.before.before.before.if1.false, eq-eqb _ _ c.before.before.before.if2.true, gathered-length, le-ltb _ _ c.before.if3.false, c.byte_at.ensures.is)
+returns-3 c = rw (le-ltb _ _ c.before.before.before.before.if1.false, eq-eqb _ _ c.before.before.before.if2.true, gathered_length, le-ltb _ _ c.before.if3.false, c.byte_at.ensures.is)
 
 sub-if5 : tie.Need-overflow-sub-if5
 sub-if5 c = search rules
 
 returns-4 : tie.Need-returns-4
 unfolding extended
-returns-4 c = rw (le-ltb _ _ c.before.before.before.before.if1.false, ne_eqb _ _ c.before.before.before.if2.false, eq-eqb _ _ c.before.before.if4.true, gathered-length, lt-ltb _ _ c.if5.true)
+returns-4 c = rw (le-ltb _ _ c.before.before.before.before.if1.false, ne_eqb _ _ c.before.before.before.if2.false, eq-eqb _ _ c.before.before.if4.true, gathered_length, lt-ltb _ _ c.if5.true)
 
 byte-at-requires-2 : tie.Need-byte-at-requires-2
 byte-at-requires-2 c κs = search rules
@@ -57,14 +57,14 @@ add-value-2 c = search rules
 
 returns-5 : tie.Need-returns-5
 unfolding extended
-returns-5 c = rw (le-ltb _ _ c.before.before.before.before.before.before.before.if1.false, ne_eqb _ _ c.before.before.before.before.before.before.if2.false, eq-eqb _ _ c.before.before.before.before.before.if4.true, gathered-length, le-ltb _ _ c.before.before.before.if5.false, ← c.before.before.byte-at2.ensures.is, ← c.before.byte-at3.ensures.is, lt-ltb _ _ c.if6.true)
+returns-5 c = rw (le-ltb _ _ c.before.before.before.before.before.before.before.if1.false, ne_eqb _ _ c.before.before.before.before.before.before.if2.false, eq-eqb _ _ c.before.before.before.before.before.if4.true, gathered_length, le-ltb _ _ c.before.before.before.if5.false, ← c.before.before.byte-at2.ensures.is, ← c.before.byte-at3.ensures.is, lt-ltb _ _ c.if6.true)
 
 add-t20 : tie.Need-overflow-add-t20
 add-t20 c = search rules
 
 returns-6 : tie.Need-returns-6
 unfolding extended
-returns-6 c = rw (le-ltb _ _ c.before.before.before.before.before.before.before.if1.false, ne_eqb _ _ c.before.before.before.before.before.before.if2.false, eq-eqb _ _ c.before.before.before.before.before.if4.true, gathered-length, le-ltb _ _ c.before.before.before.if5.false, ← c.before.before.byte-at2.ensures.is, ← c.before.byte-at3.ensures.is, le-ltb _ _ c.if6.false)
+returns-6 c = rw (le-ltb _ _ c.before.before.before.before.before.before.before.if1.false, ne_eqb _ _ c.before.before.before.before.before.before.if2.false, eq-eqb _ _ c.before.before.before.before.before.if4.true, gathered_length, le-ltb _ _ c.before.before.before.if5.false, ← c.before.before.byte-at2.ensures.is, ← c.before.byte-at3.ensures.is, le-ltb _ _ c.if6.false)
 
 returns-7 : tie.Need-returns-7
 unfolding extended

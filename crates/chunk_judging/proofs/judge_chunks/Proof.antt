@@ -3,8 +3,8 @@ use mathlib.Core.Path.{◌≡◌, sym, ◌∙◌}
 use mathlib.Core.Bool.{false}
 use native.Mathlib.Omega.{arith}
 use Rattle.chunk_judging.specs.Chunks.{past}
-use Rattle.chunk_judging.proofs.Places.{gathered-length, past-not, judged-past, judged-bytes}
-use Rattle.chunk_judging.proofs.Headed.{accepted-long, accepted-short}
+use Rattle.chunk_judging.proofs.Places.{gathered_length, past_not, judged_past, judged_bytes}
+use Rattle.chunk_judging.proofs.Headed.{accepted_long, accepted_short}
 use borrow.Author.Rules.{rules}
 use Rattle.chunk_judging.proofs.judge_chunks.Statement.{statement}
 use Rattle.chunk_judging.proofs.judge_chunks.Tie as tie
@@ -17,20 +17,20 @@ past-requires : tie.Need-past-requires
 past-requires c κs = search rules
 
 returns : tie.Need-returns
-returns c = judged-past _ _ _ _ (sym c.before.past.ensures ∙ c.if1.true)
+returns c = judged_past _ _ _ _ (sym c.before.past.ensures ∙ c.if1.true)
 
 returns-2 : tie.Need-returns-2
-returns-2 c = accepted-long _ (rw gathered-length c.if2.true) ∙ judged-bytes _ _ _ _ (within c.before)
+returns-2 c = accepted_long _ (rw gathered_length c.if2.true) ∙ judged_bytes _ _ _ _ (within c.before)
 
 returns-3 : tie.Need-returns-3
-returns-3 c = accepted-short _ (rw gathered-length c.if3.true) ∙ judged-bytes _ _ _ _ (within c.before.before)
+returns-3 c = accepted_short _ (rw gathered_length c.if3.true) ∙ judged_bytes _ _ _ _ (within c.before.before)
 
 opened-requires : tie.Need-opened-requires
 opened-requires c κs =
-    ((c.before.if2.false, past-not _ _ _ _ (omega (arith, c.if3.false)) (within c.before.before)), c.if3.false)
+    ((c.before.if2.false, past_not _ _ _ _ (omega (arith, c.if3.false)) (within c.before.before)), c.if3.false)
 
 returns-4 : tie.Need-returns-4
-returns-4 c = c.opened.ensures ∙ judged-bytes _ _ _ _ (within c.before.before.before)
+returns-4 c = c.opened.ensures ∙ judged_bytes _ _ _ _ (within c.before.before.before)
 
 pub judge_chunks_spec : {M : Type 1} → statement M
 judge_chunks_spec =

@@ -10,9 +10,9 @@ use Rattle.header.specs.Header.{raw_read}
 use Rattle.reading.specs.Headed.{headed}
 use Rattle.framing.specs.Judging.{options_judged}
 use Rattle.chunk_judging.specs.Walk.{bytes_of}
-use Rattle.chunk_judging.proofs.Places.{first_ends, gathered-length}
+use Rattle.chunk_judging.proofs.Places.{first_ends, gathered_length}
 use Rattle.chunk_judging.proofs.Front.{chunk_headed}
-use Rattle.chunk_judging.proofs.Headed.{header_refused, header-inside, header-good}
+use Rattle.chunk_judging.proofs.Headed.{header_refused, header_inside, header_good}
 use borrow.Author.Rules.{rules}
 use Rattle.chunk_judging.proofs.opened.Statement.{statement}
 use Rattle.chunk_judging.proofs.opened.Tie as tie
@@ -28,7 +28,7 @@ abbrev bytes : tie.After-opening → List ℕ
 bytes c = bytes_of c.before.before.before.before.before.before.args.d c.before.before.before.before.before.before.args.stream.now
 
 long : (c : tie.After-opening) → length (bytes c) ≡ c.before.before.before.before.before.before.args.d.len
-long c = gathered-length _ _ _ _
+long c = gathered_length _ _ _ _
 
 front : (c : tie.After-opening) → raw_read c.opening.result ≡ headed true (bytes c)
 front c =
@@ -82,7 +82,7 @@ walked-requires : tie.Need-walked-requires
 walked-requires c κs =
     let t = raw_is c in
     let s = c.before.before.before.before.before.before.before.before.before.before in
-    (s.requires.0, omega (arith, header-inside _ _ t, c.token_length.ensures, long c.before.before.before.before))
+    (s.requires.0, omega (arith, header_inside _ _ t, c.token_length.ensures, long c.before.before.before.before))
 
 returns : tie.Need-returns
 returns c = header_refused _ _ (sym (front c.before.before.before) ∙ ap raw_read c.before.e.given.1)
@@ -90,7 +90,7 @@ returns c = header_refused _ _ (sym (front c.before.before.before) ∙ ap raw_re
 returns-2 : tie.Need-returns-2
 returns-2 c =
     let t = c.before in
-    c.walked.ensures ∙ (ap (λ (n : ℕ). options_judged (bytes t.before.before.before.before) 128 0 (4 + n)) t.token_length.ensures ∙ header-good _ _ (raw_is t))
+    c.walked.ensures ∙ (ap (λ (n : ℕ). options_judged (bytes t.before.before.before.before) 128 0 (4 + n)) t.token_length.ensures ∙ header_good _ _ (raw_is t))
 
 pub opened_spec : {M : Type 1} → statement M
 opened_spec =

@@ -9,7 +9,7 @@ use Rattle.refusal.proofs.Answers.{on_given}
 use Rattle.option_reading.specs.Option.{extended}
 use Rattle.option_reading.proofs.Within.{Small, extended_small}
 use Rattle.chunk_judging.specs.Walk.{bytes_of, extension_of}
-use Rattle.chunk_judging.proofs.Places.{gathered-length, gathered-bytes}
+use Rattle.chunk_judging.proofs.Places.{gathered_length, gathered_bytes}
 use borrow.Author.Rules.{rules}
 use Rattle.chunk_judging.proofs.option_at.Statement.{statement}
 use Rattle.chunk_judging.proofs.option_at.Tie as tie
@@ -19,7 +19,7 @@ abbrev bytes : tie.After-value → List ℕ
 bytes c = bytes_of c.before.before.before.before.args.d c.before.before.before.before.args.stream.now
 
 long : (c : tie.After-value) → length (bytes c) ≡ c.before.before.before.before.args.d.len
-long c = gathered-length _ _ _ _
+long c = gathered_length _ _ _ _
 
 -- In the arm of a value: what the extension is, and that it is small.
 is_value : (c : tie.After-value) → extended 3 65535 (bytes c) c.before.before.before.before.args.idx c.before.before.before.before.args.delta ≡ given (record { value = c.value.given.0.0; next = c.value.given.0.1.0 })
@@ -29,7 +29,7 @@ of_value : (c : tie.After-value) → Small (bytes c) c.before.before.before.befo
 of_value c =
     let s = c.before.before.before.before in
     let d = s.args.d in
-    let b = gathered-bytes d.form s.args.stream.now d.from (λ i. omega (arith, c.before.before.before.shared-slice-known.given i)) d.len in
+    let b = gathered_bytes d.form s.args.stream.now d.from (λ i. omega (arith, c.before.before.before.shared-slice-known.given i)) d.len in
     on_given (Small (bytes c) s.args.idx) _ _ (extended_small 3 65535 (bytes c) s.args.idx s.args.delta b (omega (arith, long c, s.requires.1))) (is_value c)
 
 extended-requires : tie.Need-extended-requires

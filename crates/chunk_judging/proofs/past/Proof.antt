@@ -3,22 +3,22 @@ use Prim.Native.Nat.{◌-◌}
 use mathlib.Core.Path.{sym, ap, ◌∙◌}
 use lib.Dec.{leb}
 use native.Mathlib.Omega.{arith}
-use Rattle.chunk_judging.proofs.Places.{offset_over, past-none, past-over, past-last}
+use Rattle.chunk_judging.proofs.Places.{offset_over, past_none, past_over, past_last}
 use borrow.Author.Rules.{rules}
 use Rattle.chunk_judging.proofs.past.Statement.{statement}
 use Rattle.chunk_judging.proofs.past.Tie as tie
 
 returns : tie.Need-returns
-returns c = sym (past-none _ _ _ _ c.if1.true)
+returns c = sym (past_none _ _ _ _ c.if1.true)
 
 returns-2 : tie.Need-returns-2
-returns-2 c = sym (past-over _ _ _ _ c.before.if1.false (omega arith))
+returns-2 c = sym (past_over _ _ _ _ c.before.if1.false (omega arith))
 
 sub-if3 : tie.Need-overflow-sub-if3
 sub-if3 c = search rules
 
 returns-3 : tie.Need-returns-3
-returns-3 c = let a = c.before.before.before.before.args in sym (past-over _ _ _ _ c.before.before.if1.false (omega (arith, offset_over a.form (a.len - 1))))
+returns-3 c = let a = c.before.before.before.before.args in sym (past_over _ _ _ _ c.before.before.if1.false (omega (arith, offset_over a.form (a.len - 1))))
 
 sub-result : tie.Need-overflow-sub-result
 sub-result c = search rules
@@ -27,7 +27,7 @@ offset-of-requires : tie.Need-offset-of-requires
 offset-of-requires c κs = search rules
 
 returns-4 : tie.Need-returns-4
-returns-4 c = ap (leb _) c.offset-of.ensures ∙ past-last _ _ _ _ c.before.before.before.if1.false c.before.before.if2.false
+returns-4 c = ap (leb _) c.offset-of.ensures ∙ past_last _ _ _ _ c.before.before.before.if1.false c.before.before.if2.false
 
 pub past_spec : {M : Type 1} → statement M
 past_spec =

@@ -14,9 +14,9 @@ use Rattle.option_reading.specs.Answers.{found_of}
 use Rattle.option_reading.specs.Option.{Place}
 use Rattle.option_reading.proofs.Within.{Inside, place_inside}
 use Rattle.framing.specs.Judging.{options_judged}
-use Rattle.framing.proofs.Judged.{walk_refused, walk-ended, end-alone, end-well, turn, overflows}
+use Rattle.framing.proofs.Judged.{walk_refused, walk_ended, end_alone, end_well, turn, overflows}
 use Rattle.chunk_judging.specs.Walk.{bytes_of}
-use Rattle.chunk_judging.proofs.Places.{gathered-length, gathered-bytes}
+use Rattle.chunk_judging.proofs.Places.{gathered_length, gathered_bytes}
 use Rattle.chunk_judging.proofs.walked.Statement.{statement}
 use Rattle.chunk_judging.proofs.walked.Tie as tie
 
@@ -31,7 +31,7 @@ abbrev bytes : tie.After-place-at invariant-loop decreases-loop → List ℕ
 bytes c = bytes_of c.before.before.before.args.d c.before.before.before.args.stream.now
 
 long : (c : tie.After-place-at invariant-loop decreases-loop) → length (bytes c) ≡ c.before.before.before.args.d.len
-long c = gathered-length _ _ _ _
+long c = gathered_length _ _ _ _
 
 ended : (c : tie.After-place-at invariant-loop decreases-loop) (marked : Bool) (payload : ℕ) → both marked (eqb payload (length (bytes c))) ≡ both marked (eqb payload c.before.before.before.args.d.len)
 ended c marked payload = ap (λ (n : ℕ). both marked (eqb payload n)) (long c)
@@ -40,7 +40,7 @@ ended c marked payload = ap (λ (n : ℕ). both marked (eqb payload n)) (long c)
 inside : (c : tie.After-place-at invariant-loop decreases-loop) (p : Place) → found_of c.place_at.result ≡ given p → Inside (bytes c) p
 inside c p e =
     let a = c.before.before.before.args in
-    let b = gathered-bytes a.d.form a.stream.now a.d.from (λ i. omega (arith, c.before.before.shared-slice-known.given i)) a.d.len in
+    let b = gathered_bytes a.d.form a.stream.now a.d.from (λ i. omega (arith, c.before.before.shared-slice-known.given i)) a.d.len in
     on_given (Inside (bytes c)) (found_of c.place_at.result) p (rw c.place_at.ensures (place_inside 65804 (bytes c) c.before.loop.number c.before.loop.idx b)) e
 
 loop-holds : tie.Need-loop-init invariant-loop decreases-loop
@@ -65,13 +65,13 @@ returns-2 : tie.Need-returns-2 invariant-loop decreases-loop
 returns-2 c =
     let m = c.before.before.before in
     let p = m.before.before in
-    sym (p.before.loop.invariant ∙ (walk-ended _ _ _ _ _ _ (sym p.place_at.ensures ∙ ap found_of m.marked.given.1) ∙ end-alone (bytes p) m.marked.given.0.0 m.marked.given.0.1.0 (ended p m.marked.given.0.0 m.marked.given.0.1.0 ∙ (sym c.before.marker-alone.ensures ∙ c.if1.true))))
+    sym (p.before.loop.invariant ∙ (walk_ended _ _ _ _ _ _ (sym p.place_at.ensures ∙ ap found_of m.marked.given.1) ∙ end_alone (bytes p) m.marked.given.0.0 m.marked.given.0.1.0 (ended p m.marked.given.0.0 m.marked.given.0.1.0 ∙ (sym c.before.marker-alone.ensures ∙ c.if1.true))))
 
 returns-3 : tie.Need-returns-3 invariant-loop decreases-loop
 returns-3 c =
     let m = c.before.before.before in
     let p = m.before.before in
-    sym (p.before.loop.invariant ∙ (walk-ended _ _ _ _ _ _ (sym p.place_at.ensures ∙ ap found_of m.marked.given.1) ∙ end-well (bytes p) m.marked.given.0.0 m.marked.given.0.1.0 (ended p m.marked.given.0.0 m.marked.given.0.1.0 ∙ (sym c.before.marker-alone.ensures ∙ c.if1.false))))
+    sym (p.before.loop.invariant ∙ (walk_ended _ _ _ _ _ _ (sym p.place_at.ensures ∙ ap found_of m.marked.given.1) ∙ end_well (bytes p) m.marked.given.0.0 m.marked.given.0.1.0 (ended p m.marked.given.0.0 m.marked.given.0.1.0 ∙ (sym c.before.marker-alone.ensures ∙ c.if1.false))))
 
 enum-known-r : tie.Need-enum-known-r invariant-loop decreases-loop
 enum-known-r c = search rules

@@ -10,7 +10,7 @@ use Rattle.packet.specs.Packet.{stores}
 use Rattle.judging.specs.Judge.{lengths_of}
 use Rattle.judging.proofs.Good.{Good}
 use Rattle.compacting.specs.Compacting.{live_length, compacting}
-use Rattle.compacting.proofs.Answers.{refuses, sound, within, end-inside, compacts}
+use Rattle.compacting.proofs.Answers.{refuses, sound, within, end_inside, compacts}
 use borrow.Author.Rules.{rules}
 use Rattle.compacting.proofs.compact.Statement.{statement}
 use Rattle.compacting.proofs.compact.Tie as tie
@@ -44,7 +44,7 @@ part-put-bytes-start : tie.Need-slice-bounds-put-bytes-start
 part-put-bytes-start c = search rules
 
 part-put-bytes-end : tie.Need-slice-bounds-put-bytes-end
-part-put-bytes-end c = let a = c.before.before.before.before.before.before.before.before.before.before.before.before.before.before.args in omega (arith, end-inside a.packet (stores a.datagram.now a.edits.now) a.second.now _ (end_at c.before.before.before.before.before.before.before.before) _ _ c.before.before.before.before.gather.ensures)
+part-put-bytes-end c = let a = c.before.before.before.before.before.before.before.before.before.before.before.before.before.before.args in omega (arith, end_inside a.packet (stores a.datagram.now a.edits.now) a.second.now _ (end_at c.before.before.before.before.before.before.before.before) _ _ c.before.before.before.before.gather.ensures)
 
 put-bytes-requires : tie.Need-put-bytes-requires
 put-bytes-requires c κs = search rules

@@ -9,7 +9,7 @@ use Rattle.packet.proofs.Records.{left, none_left}
 use Rattle.packet.proofs.Held.{full}
 use Rattle.placing.proofs.Puts.{puts_puts}
 use Rattle.packet.specs.Packet.{stores, records_of}
-use Rattle.compacting.proofs.Walks.{Gathering, gather_start, gather-turn, gather-end}
+use Rattle.compacting.proofs.Walks.{Gathering, gather_start, gather_turn, gather_end}
 use Rattle.compacting.proofs.gather.Statement.{statement}
 use Rattle.compacting.proofs.gather.Tie as tie
 
@@ -50,7 +50,7 @@ loop-again : tie.Need-loop-preserved invariant-loop decreases-loop
 loop-again c =
     let l = c.before.before.before.before.before.before.before in
     let p = l.before.before.before.before.before.before.before.before.before.before.before.before.args.packet in
-    (omega arith, gather-turn _ _ _ _ _ _ _ l.loop.invariant.1 _ (left p.options p.count l.loop.i (omega (arith, length-take p.count p.options))) _ _ (rw c.before.before.before.value.ensures.0 at c.before.before.put-bytes2.ensures))
+    (omega arith, gather_turn _ _ _ _ _ _ _ l.loop.invariant.1 _ (left p.options p.count l.loop.i (omega (arith, length-take p.count p.options))) _ _ (rw c.before.before.before.value.ensures.0 at c.before.before.put-bytes2.ensures))
 
 part-requires-2 : tie.Need-part-requires-2 invariant-loop decreases-loop
 part-requires-2 c κs = search rules
@@ -67,7 +67,7 @@ returns c =
     let p = l.before.before.before.before.before.before.before.before.before.before.before.before.args.packet in
     let first = l.before.before.before in
     puts_puts (rw first.before.part.ensures.0 at first.put-bytes.ensures)
-    (puts_puts (gather-end _ _ _ _ _ _ _ l.loop.invariant.1 (none_left (records_of p) l.loop.i (omega (arith, length-take p.count p.options))))
+    (puts_puts (gather_end _ _ _ _ _ _ _ l.loop.invariant.1 (none_left (records_of p) l.loop.i (omega (arith, length-take p.count p.options))))
     (rw c.before.before.before.part2.ensures.0 at c.before.before.put-bytes3.ensures))
 
 pub gather_spec : {M : Type 1} → statement M

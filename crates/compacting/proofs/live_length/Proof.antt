@@ -8,7 +8,7 @@ use Rattle.packet.specs.Limits.{max_options}
 use Rattle.packet.specs.Packet.{records_of}
 use Rattle.packet.proofs.Records.{left, none_left}
 use Rattle.packet.proofs.Held.{full}
-use Rattle.compacting.proofs.Walks.{Summing, sum_start, sum-turn, sum-end}
+use Rattle.compacting.proofs.Walks.{Summing, sum_start, sum_turn, sum_end}
 use Rattle.compacting.proofs.live_length.Statement.{statement}
 use Rattle.compacting.proofs.live_length.Tie as tie
 
@@ -43,7 +43,7 @@ loop-again : tie.Need-loop-preserved invariant-loop decreases-loop
 loop-again c =
     let l = c.before.before.before in
     let p = l.before.before.args.packet in
-    (omega arith, sum-turn _ _ _ l.loop.invariant.1 _ (left p.options p.count l.loop.i (omega (arith, length-take p.count p.options))) _ c.length-of.ensures.0 c.length-of.ensures.1)
+    (omega arith, sum_turn _ _ _ l.loop.invariant.1 _ (left p.options p.count l.loop.i (omega (arith, length-take p.count p.options))) _ c.length-of.ensures.0 c.length-of.ensures.1)
 
 cast-result : tie.Need-overflow-cast-result invariant-loop decreases-loop
 cast-result c = search rules
@@ -61,7 +61,7 @@ returns : tie.Need-returns invariant-loop decreases-loop
 returns c =
     let l = c.before.before.before in
     let p = l.before.before.args.packet in
-    omega (arith, sum-end _ _ _ l.loop.invariant.1 (none_left (records_of p) l.loop.i (omega (arith, length-take p.count p.options))))
+    omega (arith, sum_end _ _ _ l.loop.invariant.1 (none_left (records_of p) l.loop.i (omega (arith, length-take p.count p.options))))
 
 pub live_length_spec : {M : Type 1} → statement M
 live_length_spec =

@@ -11,7 +11,7 @@ use Rattle.packet.proofs.Records.{left}
 use Rattle.packet.proofs.Held.{full}
 use Rattle.packet.specs.Limits.{max_store}
 use Rattle.compacting.specs.Compacting.{values_length}
-use Rattle.compacting.proofs.Walks.{Relaying, relay_start, relay-fits, relay-turn, relocates}
+use Rattle.compacting.proofs.Walks.{Relaying, relay_start, relay_fits, relay_turn, relocates}
 use Rattle.compacting.proofs.relocated.Statement.{statement}
 use Rattle.compacting.proofs.relocated.Tie as tie
 
@@ -43,7 +43,7 @@ array-set-from-records : tie.Need-array-set-from-records invariant-loop decrease
 array-set-from-records c = search rules
 
 add-next : tie.Need-overflow-add-next invariant-loop decreases-loop
-add-next c = omega (arith, relay-fits _ _ _ _ _ c.before.before.before.loop.invariant.1.1 _ (here c), c.before.before.before.loop.invariant.1.0)
+add-next c = omega (arith, relay_fits _ _ _ _ _ c.before.before.before.loop.invariant.1.1 _ (here c), c.before.before.before.loop.invariant.1.0)
 
 add-i : tie.Need-overflow-add-i invariant-loop decreases-loop
 add-i c = search rules
@@ -54,7 +54,7 @@ loop-less c = search rules
 loop-again : tie.Need-loop-preserved invariant-loop decreases-loop
 loop-again c =
     let l = c.before.before.before in
-    (omega arith, (l.loop.invariant.1.0, relay-turn _ _ _ _ _ l.loop.invariant.1.1 _ (here c) (omega arith)))
+    (omega arith, (l.loop.invariant.1.0, relay_turn _ _ _ _ _ l.loop.invariant.1.1 _ (here c) (omega arith)))
 
 returns : tie.Need-returns invariant-loop decreases-loop
 returns c =

@@ -8,7 +8,7 @@ use lib.ListN.{length}
 use Rattle.converting.specs.Converting.{size_in}
 use Rattle.thawing.specs.Thawing.{strictly_in}
 use Rattle.thawing.proofs.Thawed.{Counted, counted, uncounted}
-use Rattle.converting.proofs.Converted.{converts-refused, converts-nothing, convertible, converts-all}
+use Rattle.converting.proofs.Converted.{converts_refused, converts_nothing, convertible, converts_all}
 use borrow.Author.Rules.{rules}
 use Rattle.converting.proofs.convert.Statement.{statement}
 use Rattle.converting.proofs.convert.Tie as tie
@@ -56,16 +56,16 @@ returns c =
     let p = c.before.before in
     let h = p.before.before.before in
     let n = h.before.before in
-    converts-all _ _ _ _ n.before.before.before.other-form.ensures _ _ _ (found n) _ _ (yes h p.before.before.if1.true) p.put-stream.ensures
+    converts_all _ _ _ _ n.before.before.before.other-form.ensures _ _ _ (found n) _ _ (yes h p.before.before.if1.true) p.put-stream.ensures
 
 returns-2 : tie.Need-returns-2
-returns-2 c = converts-refused _ _ _ _ _ (uncounted _ _ _ _ (sym (ap strictly_in c.before.e.given.1) ∙ c.before.before.before.judge-strictly.ensures)) refl
+returns-2 c = converts_refused _ _ _ _ _ (uncounted _ _ _ _ (sym (ap strictly_in c.before.e.given.1) ∙ c.before.before.before.judge-strictly.ensures)) refl
 
 returns-3 : tie.Need-returns-3
 returns-3 c =
     let h = c.before in
     let n = h.before.before in
-    converts-nothing _ _ _ _ n.before.before.before.other-form.ensures _ _ _ (found n) (no h c.if1.false)
+    converts_nothing _ _ _ _ n.before.before.before.other-form.ensures _ _ _ (found n) (no h c.if1.false)
 
 pub convert_spec : {M : Type 1} → statement M
 convert_spec =

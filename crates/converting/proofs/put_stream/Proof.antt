@@ -7,7 +7,7 @@ use lib.ListN.{length}
 use Rattle.stream.specs.Messages.{thawed}
 use Rattle.stream.specs.Answers.{step_read}
 use Rattle.thawing.specs.Thawing.{messages_in}
-use Rattle.converting.proofs.Putting.{PutWalk, put-start, put-ends, put_some, put-given, put-turn}
+use Rattle.converting.proofs.Putting.{PutWalk, put_start, put_ends, put_some, put_given, put_turn}
 use Rattle.converting.proofs.put_stream.Statement.{statement}
 use Rattle.converting.proofs.put_stream.Tie as tie
 
@@ -18,7 +18,7 @@ abbrev decreases-loop : tie.decreases-loop
 decreases-loop from to stream out₀ datagram₀ at₀ place₀ out datagram at place = length stream - at
 
 loop-holds : tie.Need-loop-init invariant-loop decreases-loop
-loop-holds c = rw c.before.before.requires.are (put-start _ _ _ _ _ refl c.before.before.requires)
+loop-holds c = rw c.before.before.requires.are (put_start _ _ _ _ _ refl c.before.before.requires)
 
 slice-aggregate-next-message : tie.Need-slice-aggregate-next-message invariant-loop decreases-loop
 slice-aggregate-next-message c = sym c.before.before.loop.invariant.array-is
@@ -46,13 +46,13 @@ add-peer : tie.Need-overflow-add-peer invariant-loop decreases-loop
 add-peer c =
     let n = c.before in
     let k = n.before.before.before in
-    omega (arith, (put-given _ _ _ _ _ _ _ _ _ k.before.before.before.loop.invariant k.before.before.loop-test.true _ _ _ _ n.len.given.1 k.next-message.ensures).inside)
+    omega (arith, (put_given _ _ _ _ _ _ _ _ _ k.before.before.before.loop.invariant k.before.before.loop-test.true _ _ _ _ n.len.given.1 k.next-message.ensures).inside)
 
 add-end : tie.Need-overflow-add-end invariant-loop decreases-loop
 add-end c =
     let n = c.before in
     let k = n.before.before.before in
-    omega (arith, (put-given _ _ _ _ _ _ _ _ _ k.before.before.before.loop.invariant k.before.before.loop-test.true _ _ _ _ n.len.given.1 k.next-message.ensures).inside)
+    omega (arith, (put_given _ _ _ _ _ _ _ _ _ k.before.before.before.loop.invariant k.before.before.loop-test.true _ _ _ _ n.len.given.1 k.next-message.ensures).inside)
 
 sub-put-message : tie.Need-overflow-sub-put-message invariant-loop decreases-loop
 sub-put-message c = omega arith
@@ -64,7 +64,7 @@ part-put-message-end : tie.Need-slice-bounds-put-message-end invariant-loop decr
 part-put-message-end c =
     let n = c.before.before in
     let k = n.before.before.before in
-    let g = (put-given _ _ _ _ _ _ _ _ _ k.before.before.before.loop.invariant k.before.before.loop-test.true _ _ _ _ n.len.given.1 k.next-message.ensures) in
+    let g = (put_given _ _ _ _ _ _ _ _ _ k.before.before.before.loop.invariant k.before.before.loop-test.true _ _ _ _ n.len.given.1 k.next-message.ensures) in
     let h = g.inside in
     search rules
 
@@ -72,14 +72,14 @@ array-share-prefix-datagram : tie.Need-array-share-prefix-datagram invariant-loo
 array-share-prefix-datagram c =
     let n = c.before.before.before in
     let k = n.before.before.before in
-    let g = (put-given _ _ _ _ _ _ _ _ _ k.before.before.before.loop.invariant k.before.before.loop-test.true _ _ _ _ n.len.given.1 k.next-message.ensures) in
+    let g = (put_given _ _ _ _ _ _ _ _ _ k.before.before.before.loop.invariant k.before.before.loop-test.true _ _ _ _ n.len.given.1 k.next-message.ensures) in
     g.within
 
 slice-aggregate-put-message : tie.Need-slice-aggregate-put-message invariant-loop decreases-loop
 slice-aggregate-put-message c =
     let n = c.before.before.before.before in
     let k = n.before.before.before in
-    let g = (put-given _ _ _ _ _ _ _ _ _ k.before.before.before.loop.invariant k.before.before.loop-test.true _ _ _ _ n.len.given.1 k.next-message.ensures) in
+    let g = (put_given _ _ _ _ _ _ _ _ _ k.before.before.before.loop.invariant k.before.before.loop-test.true _ _ _ _ n.len.given.1 k.next-message.ensures) in
     sym g.count
 
 put-message-requires : tie.Need-put-message-requires invariant-loop decreases-loop
@@ -89,15 +89,15 @@ loop-less : tie.Need-loop-smaller invariant-loop decreases-loop
 loop-less c =
     let n = c.before.before.before.before.before.before.before in
     let k = n.before.before.before in
-    let g = (put-given _ _ _ _ _ _ _ _ _ k.before.before.before.loop.invariant k.before.before.loop-test.true _ _ _ _ n.len.given.1 k.next-message.ensures) in
+    let g = (put_given _ _ _ _ _ _ _ _ _ k.before.before.before.loop.invariant k.before.before.loop-test.true _ _ _ _ n.len.given.1 k.next-message.ensures) in
     omega (arith, k.before.before.loop-test.true, g.onwards)
 
 loop-again : tie.Need-loop-preserved invariant-loop decreases-loop
 loop-again c =
     let n = c.before.before.before.before.before.before.before in
     let k = n.before.before.before in
-    let g = (put-given _ _ _ _ _ _ _ _ _ k.before.before.before.loop.invariant k.before.before.loop-test.true _ _ _ _ n.len.given.1 k.next-message.ensures) in
-    put-turn _ _ _ _ _ _ _ _ _ k.before.before.before.loop.invariant k.before.before.loop-test.true _ _ _ _ _ _ _ g g.peer g.front c.before.before.put-message.ensures
+    let g = (put_given _ _ _ _ _ _ _ _ _ k.before.before.before.loop.invariant k.before.before.loop-test.true _ _ _ _ n.len.given.1 k.next-message.ensures) in
+    put_turn _ _ _ _ _ _ _ _ _ k.before.before.before.loop.invariant k.before.before.loop-test.true _ _ _ _ _ _ _ g g.peer g.front c.before.before.put-message.ensures
 
 same-length-2 : tie.Need-same-length-2 invariant-loop decreases-loop
 same-length-2 c = c.before.loop.invariant.put.kept
@@ -105,7 +105,7 @@ same-length-2 c = c.before.loop.invariant.put.kept
 returns-2 : tie.Need-returns-2 invariant-loop decreases-loop
 returns-2 c =
     let g = c.before.before.before.before.requires in
-    put-ends _ _ _ _ _ _ _ _ _ c.before.loop.invariant c.loop-test.false (rw g.are g.room_for)
+    put_ends _ _ _ _ _ _ _ _ _ c.before.loop.invariant c.loop-test.false (rw g.are g.room_for)
 
 pub put_stream_spec : {M : Type 1} → statement M
 put_stream_spec =

@@ -5,7 +5,7 @@ use borrow.Author.Rules.{rules}
 use Rattle.ground.specs.Part.{Bytes}
 use Rattle.ground.proofs.Part.{bytes_of}
 use Rattle.cursor.specs.Cursor.{start_read}
-use Rattle.cursor.proofs.Stepping.{accepting-started, accepting-unstarted}
+use Rattle.cursor.proofs.Stepping.{accepting_started, accepting_unstarted}
 use Rattle.cursor.proofs.judge.Statement.{statement}
 use Rattle.cursor.proofs.judge.Tie as tie
 
@@ -27,13 +27,13 @@ judge-from-requires c κs = search rules
 returns : tie.Need-returns
 returns c =
     let t = c.before.before.before in
-    sym (accepting-unstarted _ _ (bytes t) _ (sym t.start.ensures ∙ ap start_read c.before.e.given.1))
+    sym (accepting_unstarted _ _ (bytes t) _ (sym t.start.ensures ∙ ap start_read c.before.e.given.1))
 
 returns-2 : tie.Need-returns-2
 returns-2 c =
     let m = c.before.before in
     let t = m.before.before in
-    c.judge-from.ensures ∙ sym (accepting-started _ _ (bytes t) _ (sym t.start.ensures ∙ ap start_read m.cursor.given.1))
+    c.judge-from.ensures ∙ sym (accepting_started _ _ (bytes t) _ (sym t.start.ensures ∙ ap start_read m.cursor.given.1))
 
 pub judge_spec : {M : Type 1} → statement M
 judge_spec =

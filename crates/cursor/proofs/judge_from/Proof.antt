@@ -3,7 +3,7 @@ use mathlib.Core.Path.{◌≡◌, refl, sym, ap, ◌∙◌}
 use borrow.Author.Rules.{rules}
 use Rattle.cursor.specs.Cursor.{step_read}
 use Rattle.cursor.specs.Walk.{accepting_from}
-use Rattle.cursor.proofs.Passing.{step-passes, accepting_on, accepting_ends, accepting_stops}
+use Rattle.cursor.proofs.Passing.{step_passes, accepting_on, accepting_ends, accepting_stops}
 use Rattle.cursor.proofs.judge_from.Statement.{statement}
 use Rattle.cursor.proofs.judge_from.Tie as tie
 
@@ -41,7 +41,7 @@ enum-known-next c = search rules
 loop-less : tie.Need-loop-smaller invariant-loop decreases-loop
 loop-less c =
     let t = c.before.before.before in
-    (step-passes _ _ _ _ (sym t.step.ensures ∙ ap step_read c.before.next.given.1)).falls
+    (step_passes _ _ _ _ (sym t.step.ensures ∙ ap step_read c.before.next.given.1)).falls
 
 loop-again : tie.Need-loop-preserved invariant-loop decreases-loop
 loop-again c =

@@ -9,8 +9,8 @@ use Rattle.packet.specs.declared.OptionRecord.{OptionRecord}
 use Rattle.packet.specs.declared.Range.{Range}
 use Rattle.splicing.specs.Splice.{roomy, record_of, homed, spliced}
 use Rattle.editing.specs.Edit.{inserted, added}
-use Rattle.judging.proofs.Places.{Spanned, from-misordered, from-between}
-use Rattle.editing.proofs.Splice.{added-spliced}
+use Rattle.judging.proofs.Places.{Spanned, from_misordered, from_between}
+use Rattle.editing.proofs.Splice.{added_spliced}
 use Rattle.editing.proofs.Taken.{taken, not_taken, homed_one}
 use borrow.Author.Rules.{rules}
 use Rattle.editing.proofs.add_option.Statement.{statement}
@@ -24,7 +24,7 @@ put_after p n low high s range h e =
     let edit : List Range → Answer Packet = λ new. roomy p (spliced high high (map (record_of n) new) (records_of p)) in
     ap (λ (k : ℕ). beside p (homed (k ∷ range.start ∷ range.len ∷ []) edit)) e
     ∙ (ap (beside p) (homed_one range.home range.start range.len edit)
-    ∙ (ap (λ (l : List OptionRecord). beside p (roomy p l)) (sym (added-spliced p n low high s (record_of n range ∷ [])))
+    ∙ (ap (λ (l : List OptionRecord). beside p (roomy p l)) (sym (added_spliced p n low high s (record_of n range ∷ [])))
     ∙ taken p (roomy p (inserted n (record_of n range ∷ []) (records_of p))) s.sound))
 
 span-of-requires : tie.Need-span-of-requires
@@ -52,14 +52,14 @@ returns : tie.Need-returns
 unfolding added
 returns c =
     let a = c.before.before.before.before.args in
-    c.refused.ensures ∙ not_taken _ _ (from-misordered a.packet a.number (sym c.before.enum_told.given.1 ∙ c.before.before.before.Span-of.ensures))
+    c.refused.ensures ∙ not_taken _ _ (from_misordered a.packet a.number (sym c.before.enum_told.given.1 ∙ c.before.before.before.Span-of.ensures))
 
 returns-2 : tie.Need-returns-2
 returns-2 c =
     let m = c.before.before in
     let k = m.before.before in
     let a = k.before.before.before.args in
-    let s = from-between a.packet a.number _ _ (sym k.high.given.1 ∙ k.before.before.Span-of.ensures) in
+    let s = from_between a.packet a.number _ _ (sym k.high.given.1 ∙ k.before.before.Span-of.ensures) in
     c.spliced.ensures ∙ put_after a.packet a.number _ _ s (record { home = a.home; start = a.start; len = a.len }) _ m.number_of.ensures
 
 pub add_option_spec : {M : Type 1} → statement M

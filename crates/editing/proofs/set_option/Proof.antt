@@ -6,9 +6,9 @@ use Rattle.packet.specs.Packet.{records_of}
 use Rattle.packet.specs.declared.OptionRecord.{OptionRecord}
 use Rattle.splicing.specs.Splice.{roomy, record_of, ranges_in, homed}
 use Rattle.editing.specs.Edit.{replaced, option_set}
-use Rattle.judging.proofs.Places.{from-misordered, from-between}
-use Rattle.editing.proofs.Splice.{set-spliced}
-use Rattle.editing.proofs.Taken.{homed-taken, homed-not-taken}
+use Rattle.judging.proofs.Places.{from_misordered, from_between}
+use Rattle.editing.proofs.Splice.{set_spliced}
+use Rattle.editing.proofs.Taken.{homed_taken, homed_not_taken}
 use borrow.Author.Rules.{rules}
 use Rattle.editing.proofs.set_option.Statement.{statement}
 use Rattle.editing.proofs.set_option.Tie as tie
@@ -32,7 +32,7 @@ returns : tie.Need-returns
 unfolding option_set
 returns c =
     let a = c.before.before.before.before.before.args in
-    c.refused.ensures ∙ homed-not-taken _ a.ranges.now (λ ranges. roomy a.packet (replaced a.number ranges (records_of a.packet))) (from-misordered a.packet a.number (sym c.before.enum_told.given.1 ∙ c.before.before.before.Span-of.ensures))
+    c.refused.ensures ∙ homed_not_taken _ a.ranges.now (λ ranges. roomy a.packet (replaced a.number ranges (records_of a.packet))) (from_misordered a.packet a.number (sym c.before.enum_told.given.1 ∙ c.before.before.before.Span-of.ensures))
 
 returns-2 : tie.Need-returns-2
 unfolding option_set
@@ -41,10 +41,10 @@ returns-2 c =
     let a = k.before.before.before.before.args in
     let p = a.packet in
     let l = a.ranges.now in
-    let s = from-between p a.number _ _ (sym k.low.given.1 ∙ k.before.before.Span-of.ensures) in
+    let s = from_between p a.number _ _ (sym k.low.given.1 ∙ k.before.before.Span-of.ensures) in
     c.spliced.ensures
-    ∙ (ap (λ (rs : List OptionRecord). beside p (homed l (λ _. roomy p rs))) (sym (set-spliced p a.number _ _ s (map (record_of a.number) (ranges_in l))))
-    ∙ homed-taken p l (λ ranges. roomy p (replaced a.number ranges (records_of p))) s.sound)
+    ∙ (ap (λ (rs : List OptionRecord). beside p (homed l (λ _. roomy p rs))) (sym (set_spliced p a.number _ _ s (map (record_of a.number) (ranges_in l))))
+    ∙ homed_taken p l (λ ranges. roomy p (replaced a.number ranges (records_of p))) s.sound)
 
 pub set_option_spec : {M : Type 1} → statement M
 set_option_spec =

@@ -5,7 +5,7 @@ use Rattle.packet.specs.Packet.{records_of}
 use Rattle.packet.specs.declared.Packet.{Packet}
 use Rattle.splicing.specs.Splice.{packet_with}
 use Rattle.splicing.proofs.Places.{room}
-use Rattle.judging.proofs.Places.{from-misordered, from-between}
+use Rattle.judging.proofs.Places.{from_misordered, from_between}
 use Rattle.editing.proofs.Taken.{taken, not_taken, taken_few}
 use borrow.Author.Rules.{rules}
 use Rattle.editing.proofs.with_ranges.Statement.{statement}
@@ -32,7 +32,7 @@ spliced-requires c κs = search rules
 returns : tie.Need-returns
 returns c =
     let a = c.before.before.before.before.args in
-    c.refused.ensures ∙ not_taken _ _ (from-misordered a.packet 0 (sym c.before.enum_told.given.1 ∙ c.before.before.before.Span-of.ensures))
+    c.refused.ensures ∙ not_taken _ _ (from_misordered a.packet 0 (sym c.before.enum_told.given.1 ∙ c.before.before.before.Span-of.ensures))
 
 returns-2 : tie.Need-returns-2
 returns-2 c =
@@ -41,7 +41,7 @@ returns-2 c =
     let p = a.packet in
     let q = packet_with p a.token (records_of p) a.payload in
     let changed : Packet = record { header = p.header; token = a.token; count = p.count; options = p.options; payload = a.payload } in
-    let s = from-between p 0 _ _ (sym k.enum-told2.given.1 ∙ k.before.before.Span-of.ensures) in
+    let s = from_between p 0 _ _ (sym k.enum-told2.given.1 ∙ k.before.before.Span-of.ensures) in
     c.spliced.ensures
     ∙ (ap (beside changed) (sym (room changed (records_of p) (taken_few p s.sound))) ∙ taken p (given q) s.sound)
 

@@ -5,7 +5,7 @@ use Rattle.ground.proofs.Part.{bytes_of}
 use Rattle.reading.specs.Reading.{reading}
 use Rattle.scanning.specs.Scanning.{span_of, extent_of}
 use Rattle.scanning.proofs.Judged.{refused_read}
-use Rattle.ffi.proofs.Again.{Again, again, again-refused, again-put}
+use Rattle.ffi.proofs.Again.{Again, again, again_refused, again_put}
 use borrow.Author.Rules.{rules}
 use Rattle.ffi.proofs.rickwinter_copy.Statement.{statement}
 use Rattle.ffi.proofs.rickwinter_copy.Tie as tie
@@ -42,7 +42,7 @@ returns : tie.Need-returns
 returns c =
     let j = c.before.before.before.before in
     let a = j.before.before.before.args in
-    let h = again-refused a.strict a.datagram.now a.out.now _ (refused_read (reading a.strict a.datagram.now) span_of _ (sym (ap extent_of c.before.before.e.given.1) ∙ j.judge.ensures)) in
+    let h = again_refused a.strict a.datagram.now a.out.now _ (refused_read (reading a.strict a.datagram.now) span_of _ (sym (ap extent_of c.before.before.e.given.1) ∙ j.judge.ensures)) in
     (c.length-or-refusal.ensures ∙ h.0, h.1)
 
 same_length : tie.Need-same-length
@@ -53,7 +53,7 @@ returns-2 c =
     let f = c.before.before.before in
     let e = f.before.before.before.before in
     let a = e.before.before.before.before.before.args in
-    let h = again-put a.strict a.datagram.now a.out.now _ (at_end e) _ _ (rw f.before.before.sent-end.ensures at f.put_front.ensures) in
+    let h = again_put a.strict a.datagram.now a.out.now _ (at_end e) _ _ (rw f.before.before.sent-end.ensures at f.put_front.ensures) in
     (c.length-or-refusal2.ensures ∙ h.0, h.1)
 
 pub rickwinter_copy_spec : {M : Type 1} → statement M

@@ -5,12 +5,12 @@ use mathlib.Core.Bool.{false}
 use native.Mathlib.Omega.{arith}
 use lib.ListN.{length, get_or}
 use Rattle.packet.specs.Packet.{records_of}
-use Rattle.judging.proofs.Judging.{Judging, Follows, start, turn, no-fall, no_value, whole}
+use Rattle.judging.proofs.Judging.{Judging, Follows, start, turn, no_fall, no_value, whole}
 use Rattle.unflat.specs.Unflat.{bad_record, bad_numbers, bad_frame, record_at, packet_in}
 use Rattle.unflat.proofs.Unflat.{framed, good_more}
 use Rattle.flat_measuring.specs.FlatMeasuring.{cut_short}
 use Rattle.flat_measuring.proofs.Records.{used, here}
-use Rattle.flat_measuring.proofs.Judged.{long_enough, short-bad, frame-bad, start-bad, next-bad, next-good, sound, counts}
+use Rattle.flat_measuring.proofs.Judged.{long_enough, short_bad, frame_bad, start_bad, next_bad, next_good, sound, counts}
 use Rattle.flat_measuring.proofs.judge.Statement.{statement}
 use Rattle.flat_measuring.proofs.judge.Tie as tie
 
@@ -30,7 +30,7 @@ well c = sym c.before.bad-frame.ensures ∙ c.if3.false
 
 -- A record that is not bad follows, and the walk goes on after it.
 fits : (c : tie.Else2 invariant-loop decreases-loop) → (bad_record c.before.before.before.before.before.before.before.before.args.numbers.now (11 + 4 * c.before.before.before.loop.i) ≡ false) × Follows c.before.before.before.before.before.before.before.before.args.lengths c.before.before.before.loop.before (record_at c.before.before.before.before.before.before.before.before.args.numbers.now (11 + 4 * c.before.before.before.loop.i))
-fits c = next-good _ _ _ _ (sym c.before.bad-next.ensures ∙ c.if2.false)
+fits c = next_good _ _ _ _ (sym c.before.bad-next.ensures ∙ c.if2.false)
 
 again : (c : tie.After-size-after invariant-loop decreases-loop) → Judging c.before.before.before.before.before.before.before.before.before.args.lengths (records_of (packet_in c.before.before.before.before.before.before.before.before.before.args.numbers.now)) (get_or c.before.before.before.before.before.before.before.before.before.args.numbers.now (11 + 4 * c.before.before.before.before.loop.i) 0) (c.before.before.before.before.loop.size + c.size-after.result) (c.before.before.before.before.loop.i + 1)
 again c =
@@ -42,7 +42,7 @@ cut-short-requires : tie.Need-cut-short-requires invariant-loop decreases-loop
 cut-short-requires c κs = tt
 
 returns : tie.Need-returns invariant-loop decreases-loop
-returns c = short-bad _ _ (sym c.before.cut_short.ensures ∙ c.if1.true)
+returns c = short_bad _ _ (sym c.before.cut_short.ensures ∙ c.if1.true)
 
 shared-slice-read-count : tie.Need-shared-slice-read-count invariant-loop decreases-loop
 shared-slice-read-count c = omega (arith, long_enough _ (enough c.before))
@@ -63,7 +63,7 @@ bad-next-requires : tie.Need-bad-next-requires invariant-loop decreases-loop
 bad-next-requires c κs = omega arith
 
 returns-2 : tie.Need-returns-2 invariant-loop decreases-loop
-returns-2 c = next-bad _ _ _ _ _ c.before.before.before.loop.invariant.2 c.before.before.loop-test.true (sym c.before.bad-next.ensures ∙ c.if2.true)
+returns-2 c = next_bad _ _ _ _ _ c.before.before.before.loop.invariant.2 c.before.before.loop-test.true (sym c.before.bad-next.ensures ∙ c.if2.true)
 
 size-after-requires : tie.Need-size-after-requires invariant-loop decreases-loop
 size-after-requires c κs = (omega arith, (fits c).1.up)
@@ -90,13 +90,13 @@ bad-frame-requires : tie.Need-bad-frame-requires invariant-loop decreases-loop
 bad-frame-requires c κs = tt
 
 returns-3 : tie.Need-returns-3 invariant-loop decreases-loop
-returns-3 c = frame-bad _ _ (sym c.before.bad-frame.ensures ∙ c.if3.true)
+returns-3 c = frame_bad _ _ (sym c.before.bad-frame.ensures ∙ c.if3.true)
 
 bad-start-requires : tie.Need-bad-start-requires invariant-loop decreases-loop
 bad-start-requires c κs = (framed _ (well c)).head
 
 returns-4 : tie.Need-returns-4 invariant-loop decreases-loop
-returns-4 c = start-bad _ _ (sym c.before.bad-start.ensures ∙ c.if4.true)
+returns-4 c = start_bad _ _ (sym c.before.bad-start.ensures ∙ c.if4.true)
 
 returns-5 : tie.Need-returns-5 invariant-loop decreases-loop
 returns-5 c =
@@ -105,7 +105,7 @@ returns-5 c =
     let past : length (records_of (packet_in l)) ≤ k.i = omega (arith, used l) in
     let all : k.i ≡ get_or l 10 0 = omega arith in
     counts _ _ _
-    (sound _ _ (well c.before.before) (sym c.before.bad-start.ensures ∙ c.if4.false) (ap (bad_numbers l) (sym all) ∙ k.invariant.1) (no-fall _ _ _ _ _ k.invariant.2 past) (no_value _ _ _ _ _ k.invariant.2 past))
+    (sound _ _ (well c.before.before) (sym c.before.bad-start.ensures ∙ c.if4.false) (ap (bad_numbers l) (sym all) ∙ k.invariant.1) (no_fall _ _ _ _ _ k.invariant.2 past) (no_value _ _ _ _ _ k.invariant.2 past))
     (whole _ _ _ _ _ k.invariant.2 past)
 
 pub judge_spec : {M : Type 1} → statement M

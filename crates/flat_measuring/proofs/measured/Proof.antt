@@ -9,7 +9,7 @@ use Rattle.judging.proofs.Good.{good, options_small}
 use Rattle.unflat.specs.Unflat.{packet_in}
 use Rattle.flat_measuring.specs.FlatMeasuring.{Sound}
 use Rattle.flat_measuring.proofs.Records.{used}
-use Rattle.flat_measuring.proofs.Judged.{counted, measured-long, measured-refused, measured-sound}
+use Rattle.flat_measuring.proofs.Judged.{counted, measured_long, measured_refused, measured_sound}
 use Rattle.flat_measuring.proofs.Places.{places}
 use borrow.Author.Rules.{rules}
 use Rattle.flat_measuring.proofs.measured.Statement.{statement}
@@ -27,7 +27,7 @@ too-long-requires : tie.Need-too-long-requires
 too-long-requires c κs = search rules
 
 returns : tie.Need-returns
-returns c = sym (measured-long _ _ _ _ (sym c.before.too_long.ensures ∙ c.if1.true))
+returns c = sym (measured_long _ _ _ _ (sym c.before.too_long.ensures ∙ c.if1.true))
 
 judge-requires : tie.Need-judge-requires
 judge-requires c κs = search rules
@@ -55,15 +55,15 @@ sized-requires c κs =
     (p.head, k.1, omega (arith, k.1, options_small _ 0 (records_of (packet_in l)) (good _ _ k.0.packet).values, used l, p.count))
 
 returns-2 : tie.Need-returns-2
-returns-2 c = sym (measured-refused _ _ _ _ (short_at c.before.before.before) (sym (ap judged c.enum_told.given.1) ∙ c.before.before.judge.ensures))
+returns-2 c = sym (measured_refused _ _ _ _ (short_at c.before.before.before) (sym (ap judged c.enum_told.given.1) ∙ c.before.before.judge.ensures))
 
 returns-3 : tie.Need-returns-3
 returns-3 c =
-    sym (measured-sound _ _ _ _ (short_at c.before.before.before.before.before.before.before.before) (sound_at c.before.before.before.before.before).0 ∙ rw (sym c.before.before.before.judged-strictly.ensures ∙ ap outcome c.before.e.given.1))
+    sym (measured_sound _ _ _ _ (short_at c.before.before.before.before.before.before.before.before) (sound_at c.before.before.before.before.before).0 ∙ rw (sym c.before.before.before.judged-strictly.ensures ∙ ap outcome c.before.e.given.1))
 
 returns-4 : tie.Need-returns-4
 returns-4 c =
-    sym (measured-sound _ _ _ _ (short_at c.before.before.before.before.before.before.before.before) (sound_at c.before.before.before.before.before).0 ∙ rw (sym c.before.before.before.judged-strictly.ensures ∙ ap outcome c.before.enum-told2.given.1) (sym c.sized.ensures))
+    sym (measured_sound _ _ _ _ (short_at c.before.before.before.before.before.before.before.before) (sound_at c.before.before.before.before.before).0 ∙ rw (sym c.before.before.before.judged-strictly.ensures ∙ ap outcome c.before.enum-told2.given.1) (sym c.sized.ensures))
 
 pub measured_spec : {M : Type 1} → statement M
 measured_spec =

@@ -1,7 +1,7 @@
 -- `put_head`: the raw header, then the token.
 use native.Mathlib.Omega.{arith}
 use Rattle.unflat.proofs.Unflat.{small}
-use Rattle.flat_writing.proofs.Head.{head-laid}
+use Rattle.flat_writing.proofs.Head.{head_laid}
 use borrow.Author.Rules.{rules}
 use Rattle.flat_writing.proofs.put_head.Statement.{statement}
 use Rattle.flat_writing.proofs.put_head.Tie as tie
@@ -52,7 +52,7 @@ same_length : tie.Need-same-length
 same_length c = search rules
 
 returns : tie.Need-returns
-returns c = head-laid _ _ _ _ _ _ c.before.before.before.before.before.before.before.before.before.before.before.before.before.before.before.before.requires c.before.before.before.before.before.before.serialize-into.ensures.1 c.before.before.put-bytes.ensures
+returns c = head_laid _ _ _ _ _ _ c.before.before.before.before.before.before.before.before.before.before.before.before.before.before.before.before.requires c.before.before.before.before.before.before.serialize-into.ensures.1 c.before.before.put-bytes.ensures
 
 pub put_head_spec : {M : Type 1} → statement M
 put_head_spec =

@@ -4,7 +4,7 @@ use mathlib.Core.Path.{sym, ap, ◌∙◌}
 use native.Mathlib.Omega.{arith}
 use lib.ListN.{length-set}
 use Rattle.rfc.specs.Message.{nibble_of}
-use Rattle.rfc.proofs.Message.{nibble-small}
+use Rattle.rfc.proofs.Message.{nibble_small}
 use Rattle.laying.proofs.Pieces.{both_short}
 use Rattle.flat_writing.proofs.Pieces.{extension_short, nibbles_short, nibbles_loosely}
 use borrow.Author.Rules.{rules}
@@ -43,15 +43,15 @@ nibble-requires : tie.Need-nibble-requires
 nibble-requires c κs = search rules
 
 mul-out-2 : tie.Need-overflow-mul-out-2
-mul-out-2 c = let high : c.nibble.result ≤ 14 = rw c.nibble.ensures (nibble-small _) in omega arith
+mul-out-2 c = let high : c.nibble.result ≤ 14 = rw c.nibble.ensures (nibble_small _) in omega arith
 
 nibble-requires-2 : tie.Need-nibble-requires-2
 nibble-requires-2 c κs = search rules
 
 add-out-2 : tie.Need-overflow-add-out-2
 add-out-2 c =
-    let high : c.before.nibble.result ≤ 14 = rw c.before.nibble.ensures (nibble-small _) in
-    let low : c.nibble2.result ≤ 14 = rw c.nibble2.ensures (nibble-small _) in
+    let high : c.before.nibble.result ≤ 14 = rw c.before.nibble.ensures (nibble_small _) in
+    let low : c.nibble2.result ≤ 14 = rw c.nibble2.ensures (nibble_small _) in
     omega arith
 
 slice-write-out-2 : tie.Need-slice-write-out-2

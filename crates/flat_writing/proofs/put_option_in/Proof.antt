@@ -6,7 +6,7 @@ use native.Mathlib.Omega.{arith}
 use lib.ListN.{length, take, drop, length-take, length-drop}
 use lib.Seq.{take_all}
 use Rattle.flat_writing.proofs.Loosely.{loosely_wider}
-use Rattle.flat_writing.proofs.Pieces.{all_loose, option-given, option_exactly, option-size}
+use Rattle.flat_writing.proofs.Pieces.{all_loose, option_given, option_exactly, option_size}
 use borrow.Author.Rules.{rules}
 use Rattle.flat_writing.proofs.put_option_in.Statement.{statement}
 use Rattle.flat_writing.proofs.put_option_in.Tie as tie
@@ -71,7 +71,7 @@ taken-requires : tie.Need-taken-requires
 taken-requires c κs =
     let st = c.before.before.before.before.before.before.before.before.before in
     let a = st.args in
-    (_, (rw add-sub_cancel_left at c.before.before.put-option.ensures).answer ∙ option-given a.delta a.len a.start a.at a.end a.store.now a.out.now st.requires.1 st.requires.2 st.requires.3 st.requires.4)
+    (_, (rw add-sub_cancel_left at c.before.before.put-option.ensures).answer ∙ option_given a.delta a.len a.start a.at a.end a.store.now a.out.now st.requires.1 st.requires.2 st.requires.3 st.requires.4)
 
 returns-2 : tie.Need-returns-2
 returns-2 c =
@@ -86,7 +86,7 @@ add-result : tie.Need-overflow-add-result
 add-result c =
     let st = c.before.before.before.before.before.before.before.before.before.before in
     let a = st.args in
-    omega (arith, (returns-2 c).next, option-size a.delta a.len a.start a.at a.end a.store.now a.out.now st.requires.1 st.requires.2 st.requires.3 st.requires.4, st.requires.3, st.requires.4)
+    omega (arith, (returns-2 c).next, option_size a.delta a.len a.start a.at a.end a.store.now a.out.now st.requires.1 st.requires.2 st.requires.3 st.requires.4, st.requires.3, st.requires.4)
 
 pub put_option_in_spec : {M : Type 1} → statement M
 put_option_in_spec =

@@ -8,8 +8,8 @@ use Rattle.packet.proofs.Records.{none_left}
 use Rattle.judging.proofs.Good.{good}
 use Rattle.unflat.specs.Unflat.{packet_in}
 use Rattle.flat_measuring.proofs.Records.{used, here}
-use Rattle.flat_measuring.proofs.Places.{places, number-held}
-use Rattle.flat_writing.proofs.Options.{Going, start, rises, option-fits, turn, all}
+use Rattle.flat_measuring.proofs.Places.{places, number_held}
+use Rattle.flat_writing.proofs.Options.{Going, start, rises, option_fits, turn, all}
 use Rattle.flat_writing.proofs.put_options.Statement.{statement}
 use Rattle.flat_writing.proofs.put_options.Tie as tie
 
@@ -93,8 +93,8 @@ put-option-in-requires c κs =
     let st = c.before.before.before.before.before.before.before.before.before.before.before.before.before in
     let l = c.before.before.before.before.before.before.before.loop in
     let t = c.before.before.before.before.before.before.loop-test.true in
-    let f = option-fits _ _ _ _ _ st.requires.1 st.requires.2 _ _ _ _ l.invariant.1 _ (here _ _ t) _ c.before.before.before.store_of.ensures in
-    (omega (arith, number-held _ _ st.requires.0 l.i t), f.0, f.1, f.2, omega (arith, l.invariant.1.kept, st.requires.2))
+    let f = option_fits _ _ _ _ _ st.requires.1 st.requires.2 _ _ _ _ l.invariant.1 _ (here _ _ t) _ c.before.before.before.store_of.ensures in
+    (omega (arith, number_held _ _ st.requires.0 l.i t), f.0, f.1, f.2, omega (arith, l.invariant.1.kept, st.requires.2))
 
 mul-before : tie.Need-overflow-mul-before invariant-loop decreases-loop
 mul-before c = omega arith

@@ -1,7 +1,7 @@
 -- `head_of`: by the class of the length.
 use mathlib.Core.Path.{refl, sym}
 use native.Mathlib.Omega.{arith}
-use Rattle.framing.proofs.Heads.{head-none, head-one, head-two, head-four}
+use Rattle.framing.proofs.Heads.{head_none, head_one, head_two, head_four}
 use borrow.Author.Rules.{rules}
 use Rattle.framing.proofs.head_of.Statement.{statement}
 use Rattle.framing.proofs.head_of.Tie as tie
@@ -16,7 +16,7 @@ cast-t9 : tie.Need-overflow-cast-t9
 cast-t9 c = search rules
 
 returns : tie.Need-returns
-returns c = record { is = sym (head-none _ _ _ c.if1.true); short = omega arith; array = refl }
+returns c = record { is = sym (head_none _ _ _ c.if1.true); short = omega arith; array = refl }
 
 mul-t11 : tie.Need-overflow-mul-t11
 mul-t11 c = search rules
@@ -31,7 +31,7 @@ cast-t15 : tie.Need-overflow-cast-t15
 cast-t15 c = search rules
 
 returns-2 : tie.Need-returns-2
-returns-2 c = record { is = sym (head-one _ _ _ c.before.if1.false c.if2.true); short = omega arith; array = refl }
+returns-2 c = record { is = sym (head_one _ _ _ c.before.if1.false c.if2.true); short = omega arith; array = refl }
 
 mul-t17 : tie.Need-overflow-mul-t17
 mul-t17 c = search rules
@@ -49,7 +49,7 @@ cast-t23 : tie.Need-overflow-cast-t23
 cast-t23 c = search rules
 
 returns-3 : tie.Need-returns-3
-returns-3 c = record { is = sym (head-two _ _ _ c.before.if2.false c.if3.true); short = omega arith; array = refl }
+returns-3 c = record { is = sym (head_two _ _ _ c.before.if2.false c.if3.true); short = omega arith; array = refl }
 
 mul-t25 : tie.Need-overflow-mul-t25
 mul-t25 c = search rules
@@ -73,7 +73,7 @@ cast-t37 : tie.Need-overflow-cast-t37
 cast-t37 c = search rules
 
 returns-4 : tie.Need-returns-4
-returns-4 c = record { is = sym (head-four _ _ _ c.if3.false); short = omega arith; array = refl }
+returns-4 c = record { is = sym (head_four _ _ _ c.if3.false); short = omega arith; array = refl }
 
 pub head_of_spec : {M : Type 1} → statement M
 head_of_spec =

@@ -11,7 +11,7 @@ use Rattle.option_reading.specs.Answers.{found_of}
 use Rattle.option_reading.specs.Option.{Place, place_at, placed}
 use Rattle.option_reading.proofs.Within.{Inside, place_inside}
 use Rattle.framing.specs.Judging.{options_judged}
-use Rattle.framing.proofs.Judged.{walk_refused, walk-ended, end-alone, end-well, turn, overflows}
+use Rattle.framing.proofs.Judged.{walk_refused, walk_ended, end_alone, end_well, turn, overflows}
 use Rattle.framing.proofs.judge_options.Statement.{statement}
 use Rattle.framing.proofs.judge_options.Tie as tie
 
@@ -58,13 +58,13 @@ returns-2 : tie.Need-returns-2 invariant-loop decreases-loop
 returns-2 c =
     let m = c.before.before.before in
     let p = m.before.before in
-    sym (p.before.loop.invariant ∙ (walk-ended _ _ _ _ _ _ (sym (place p) ∙ ap found_of m.marked.given.1) ∙ end-alone p.before.before.before.args.rest.now m.marked.given.0.0 m.marked.given.0.1.0 (sym c.before.marker-alone.ensures ∙ c.if1.true)))
+    sym (p.before.loop.invariant ∙ (walk_ended _ _ _ _ _ _ (sym (place p) ∙ ap found_of m.marked.given.1) ∙ end_alone p.before.before.before.args.rest.now m.marked.given.0.0 m.marked.given.0.1.0 (sym c.before.marker-alone.ensures ∙ c.if1.true)))
 
 returns-3 : tie.Need-returns-3 invariant-loop decreases-loop
 returns-3 c =
     let m = c.before.before.before in
     let p = m.before.before in
-    sym (p.before.loop.invariant ∙ (walk-ended _ _ _ _ _ _ (sym (place p) ∙ ap found_of m.marked.given.1) ∙ end-well p.before.before.before.args.rest.now m.marked.given.0.0 m.marked.given.0.1.0 (sym c.before.marker-alone.ensures ∙ c.if1.false)))
+    sym (p.before.loop.invariant ∙ (walk_ended _ _ _ _ _ _ (sym (place p) ∙ ap found_of m.marked.given.1) ∙ end_well p.before.before.before.args.rest.now m.marked.given.0.0 m.marked.given.0.1.0 (sym c.before.marker-alone.ensures ∙ c.if1.false)))
 
 enum-known-r : tie.Need-enum-known-r invariant-loop decreases-loop
 enum-known-r c = search rules

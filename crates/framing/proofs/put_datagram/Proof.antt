@@ -2,7 +2,7 @@
 use borrow.Author.Rules.{rules}
 use native.Mathlib.Omega.{arith}
 use Rattle.header.proofs.Raw.{type_small}
-use Rattle.framing.proofs.Converting.{not_converted, too_long, back-refused, back-given}
+use Rattle.framing.proofs.Converting.{not_converted, too_long, back_refused, back_given}
 use Rattle.framing.proofs.put_datagram.Statement.{statement}
 use Rattle.framing.proofs.put_datagram.Tie as tie
 
@@ -77,7 +77,7 @@ put-both-requires c κs = search rules
 returns-2 : tie.Need-returns-2
 returns-2 c =
     let a = c.before.before.before.before.before.before.before.before.before.args in
-    back-refused a.kind a.id a.frame.now a.head c.before.before.before.before.before.before.before.before.before.requires c.before.before.before.before.before.if1.false _ c.before.before.before.judge.ensures _ _ c.before.e.given.1
+    back_refused a.kind a.id a.frame.now a.head c.before.before.before.before.before.before.before.before.before.requires c.before.before.before.before.before.if1.false _ c.before.before.before.judge.ensures _ _ c.before.e.given.1
 
 same_length : tie.Need-same-length
 same_length c = search rules
@@ -85,7 +85,7 @@ same_length c = search rules
 returns-3 : tie.Need-returns-3
 returns-3 c =
     let a = c.before.before.before.before.before.before.before.before.before.before.before.before.before.before.before.before.args in
-    rw (back-given a.kind a.id a.frame.now a.head c.before.before.before.before.before.before.before.before.before.before.before.before.before.before.before.before.requires c.before.before.before.before.before.before.before.before.before.before.before.before.if1.false _ c.before.before.before.before.before.before.before.before.before.before.judge.ensures c.before.before.before.before.before.before.before.before.enum_told.given.1)
+    rw (back_given a.kind a.id a.frame.now a.head c.before.before.before.before.before.before.before.before.before.before.before.before.before.before.before.before.requires c.before.before.before.before.before.before.before.before.before.before.before.before.if1.false _ c.before.before.before.before.before.before.before.before.before.before.judge.ensures c.before.before.before.before.before.before.before.before.enum_told.given.1)
     (rw c.before.before.before.before.before.before.before.to_number.ensures at c.before.before.put_both.ensures)
 
 pub put_datagram_spec : {M : Type 1} → statement M

@@ -3,7 +3,7 @@ use mathlib.Core.Path.{sym, ap, ◌∙◌}
 use native.Mathlib.Omega.{arith}
 use Rattle.ground.proofs.Part.{bytes_of}
 use Rattle.refusal.specs.Answer.{outcome}
-use Rattle.framing.proofs.Converting.{not_converted, framed_refused, accepted-whole, framed_is}
+use Rattle.framing.proofs.Converting.{not_converted, framed_refused, accepted_whole, framed_is}
 use borrow.Author.Rules.{rules}
 use Rattle.framing.proofs.to_frame.Statement.{statement}
 use Rattle.framing.proofs.to_frame.Tie as tie
@@ -20,7 +20,7 @@ enum_told c = search rules
 put-frame-requires : tie.Need-put-frame-requires
 put-frame-requires c κs =
     let s = c.before.before.before.before.before.before.args.datagram.now in
-    accepted-whole s (bytes_of s (λ i. omega (arith, c.before.before.before.before.before.shared-slice-known.given i))) (sym c.before.before.before.judge.ensures ∙ ap outcome c.before.enum_told.given.1)
+    accepted_whole s (bytes_of s (λ i. omega (arith, c.before.before.before.before.before.shared-slice-known.given i))) (sym c.before.before.before.judge.ensures ∙ ap outcome c.before.enum_told.given.1)
 
 returns : tie.Need-returns
 returns c = not_converted _ _ _ (framed_refused _ _ (sym c.before.before.before.judge.ensures ∙ ap outcome c.before.e.given.1))

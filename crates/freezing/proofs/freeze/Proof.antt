@@ -8,8 +8,8 @@ use Rattle.packet.specs.Limits.{full_size}
 use Rattle.packet.specs.Packet.{stores}
 use Rattle.measuring.specs.declared.Limit.TheVariants.{Given}
 use Rattle.writing.specs.Writing.{writing, bytes_written}
-use Rattle.freezing.proofs.Full.{full-written}
-use Rattle.freezing.proofs.Freezing.{freezes-nothing, freezes, front}
+use Rattle.freezing.proofs.Full.{full_written}
+use Rattle.freezing.proofs.Freezing.{freezes_nothing, freezes, front}
 use borrow.Author.Rules.{rules}
 use Rattle.freezing.proofs.freeze.Statement.{statement}
 use Rattle.freezing.proofs.freeze.Tie as tie
@@ -27,7 +27,7 @@ bytes_are c = front _ _ _ (replicate full_size 0) _ refl (read c) c.before.befor
 count : (c : tie.After-n) → length (take c.n.given.0.0 c.before.before.before.to-bytes-with-limit-strict.new.1.1.1.1.0) ≡ c.n.given.0.0
 count c =
     let a = c.before.before.before.before.before.before.before.before.args in
-    ap length (bytes_are c) ∙ sym (full-written (stores a.datagram.now a.edits.now) a.packet c.n.given.0.0 (sym (read c))).0
+    ap length (bytes_are c) ∙ sym (full_written (stores a.datagram.now a.edits.now) a.packet c.n.given.0.0 (sym (read c))).0
 
 slice-aggregate-to-bytes-with-limit-strict : tie.Need-slice-aggregate-to-bytes-with-limit-strict
 slice-aggregate-to-bytes-with-limit-strict c = search rules
@@ -51,10 +51,10 @@ write-message-requires : tie.Need-write-message-requires
 write-message-requires c κs =
     let n = c.before.before.before in
     let a = n.before.before.before.before.before.before.before.before.args in
-    omega (arith, count n, (full-written (stores a.datagram.now a.edits.now) a.packet n.n.given.0.0 (sym (read n))).1)
+    omega (arith, count n, (full_written (stores a.datagram.now a.edits.now) a.packet n.n.given.0.0 (sym (read n))).1)
 
 returns : tie.Need-returns
-returns c = freezes-nothing _ _ _ _ _ _ _ _ (sym (ap written c.before.e.given.1) ∙ answer c.before.before.before.before) refl
+returns c = freezes_nothing _ _ _ _ _ _ _ _ (sym (ap written c.before.e.given.1) ∙ answer c.before.before.before.before) refl
 
 same_length : tie.Need-same-length
 same_length c = search rules

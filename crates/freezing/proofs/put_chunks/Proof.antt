@@ -6,8 +6,8 @@ use borrow.Author.Rules.{rules}
 use lib.ListN.{length, take, drop}
 use Rattle.stream.specs.Stream.{full}
 use Rattle.stream.proofs.Sound.{full_some}
-use Rattle.stream.proofs.Chunks.{next-bytes, next-length}
-use Rattle.freezing.proofs.Chunks.{ChunkWalk, chunk_start, chunk-done, chunk-turn}
+use Rattle.stream.proofs.Chunks.{next_bytes, next_length}
+use Rattle.freezing.proofs.Chunks.{ChunkWalk, chunk_start, chunk_done, chunk_turn}
 use Rattle.freezing.proofs.put_chunks.Statement.{statement}
 use Rattle.freezing.proofs.put_chunks.Tie as tie
 
@@ -25,7 +25,7 @@ part_is c =
     let n = c.chunk-length.result in
     let a = c.before.before.before.before.before.args in
     let k : i + n - i ≡ n = omega arith in
-    ap (λ (j : ℕ). take j (drop i a.datagram.now)) k ∙ next-bytes a.form a.datagram.now i n c.chunk-length.ensures
+    ap (λ (j : ℕ). take j (drop i a.datagram.now)) k ∙ next_bytes a.form a.datagram.now i n c.chunk-length.ensures
 
 loop-holds : tie.Need-loop-init invariant-loop decreases-loop
 loop-holds c = chunk_start _ _ _ _
@@ -53,7 +53,7 @@ put-chunk-requires c κs =
     let n = c.before.before in
     let l = n.before.before in
     let a = l.before.before.before.args in
-    rw (part_is n) (omega (arith, next-length a.form a.datagram.now l.loop.i n.chunk-length.result n.chunk-length.ensures, n.chunk-length.ensures))
+    rw (part_is n) (omega (arith, next_length a.form a.datagram.now l.loop.i n.chunk-length.result n.chunk-length.ensures, n.chunk-length.ensures))
 
 loop-less : tie.Need-loop-smaller invariant-loop decreases-loop
 loop-less c =
@@ -65,13 +65,13 @@ loop-again c =
     let p = c.before.before in
     let n = p.before.before.before in
     let l = n.before.before in
-    chunk-turn _ _ _ _ _ _ _ l.loop.invariant _ n.before.loop-test.true n.chunk-length.ensures _ _ (rw (part_is n) at p.put-chunk.ensures)
+    chunk_turn _ _ _ _ _ _ _ l.loop.invariant _ n.before.loop-test.true n.chunk-length.ensures _ _ (rw (part_is n) at p.put-chunk.ensures)
 
 same_length : tie.Need-same-length invariant-loop decreases-loop
 same_length c = c.before.loop.invariant.put.kept
 
 returns : tie.Need-returns invariant-loop decreases-loop
-returns c = chunk-done _ _ _ _ _ _ _ c.before.loop.invariant c.loop-test.false
+returns c = chunk_done _ _ _ _ _ _ _ c.before.loop.invariant c.loop-test.false
 
 pub put_chunks_spec : {M : Type 1} → statement M
 put_chunks_spec =

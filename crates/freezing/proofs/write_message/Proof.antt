@@ -4,7 +4,7 @@ use native.Mathlib.Omega.{arith}
 use lib.ListN.{length}
 use Rattle.stream.specs.Stream.{message_of}
 use Rattle.stream.proofs.Sizes.{message_size_lem}
-use Rattle.freezing.proofs.Freezing.{writes_nothing, writes-all}
+use Rattle.freezing.proofs.Freezing.{writes_nothing, writes_all}
 use borrow.Author.Rules.{rules}
 use Rattle.freezing.proofs.write_message.Statement.{statement}
 use Rattle.freezing.proofs.write_message.Tie as tie
@@ -43,7 +43,7 @@ returns-3 : tie.Need-returns-3
 returns-3 c =
     let p = c.before.before in
     let k = p.before.before.before.before.before in
-    writes-all _ _ _ _ _ _ _ (size k) (omega arith) p.put-message.ensures
+    writes_all _ _ _ _ _ _ _ (size k) (omega arith) p.put-message.ensures
 
 pub write_message_spec : {M : Type 1} → statement M
 write_message_spec =

@@ -3,7 +3,7 @@ use mathlib.Core.Path.{sym, ◌∙◌}
 use native.Mathlib.Omega.{arith}
 use Rattle.header.specs.Header.{number_of_type}
 use Rattle.hearing.specs.Hearing.{arrival, Fits}
-use Rattle.hearing.proofs.Answers.{is-back, is-short, is-passed, is-duplicate, is-full, is_new}
+use Rattle.hearing.proofs.Answers.{is_back, is_short, is_passed, is_duplicate, is_full, is_new}
 use borrow.Author.Rules.{rules}
 use Rattle.hearing.proofs.hear.Statement.{statement}
 use Rattle.hearing.proofs.hear.Tie as tie
@@ -13,10 +13,10 @@ pub fits : (c : tie.Start) → Fits (arrival c.args.time (number_of_type c.args.
 fits c = record { time = omega arith; peer = omega arith; id = omega arith }
 
 returns : tie.Need-returns
-returns c = is-back _ _ _ c.if1.true
+returns c = is_back _ _ _ c.if1.true
 
 returns-2 : tie.Need-returns-2
-returns-2 c = is-short _ _ _ c.before.if1.false c.if2.true
+returns-2 c = is_short _ _ _ c.before.if1.false c.if2.true
 
 to-number-requires : tie.Need-to-number-requires
 to-number-requires c κs = search rules
@@ -24,7 +24,7 @@ to-number-requires c κs = search rules
 returns-3 : tie.Need-returns-3
 returns-3 c =
     let number = c.before in
-    is-passed _ _ _ number.before.before.if1.false number.before.if2.false (omega (arith, number.to_number.ensures))
+    is_passed _ _ _ number.before.before.if1.false number.before.if2.false (omega (arith, number.to_number.ensures))
 
 slice-aggregate-is-known : tie.Need-slice-aggregate-is-known
 slice-aggregate-is-known c = search rules
@@ -40,7 +40,7 @@ returns-4 c =
     let known = c.before in
     let number = known.before.before.before.before in
     let is = number.to_number.ensures in
-    is-duplicate _ _ _ number.before.before.if1.false number.before.if2.false (omega (arith, is))
+    is_duplicate _ _ _ number.before.before.if1.false number.before.if2.false (omega (arith, is))
     (sym (rw is at known.is_Known.ensures) ∙ c.if4.true)
 
 lowest-free-requires : tie.Need-lowest-free-requires
@@ -55,7 +55,7 @@ returns-5 c =
     let known = low.before.before.before in
     let number = known.before.before.before.before in
     let is = number.to_number.ensures in
-    is-full _ _ _ number.before.before.if1.false number.before.if2.false (omega (arith, is))
+    is_full _ _ _ number.before.before.if1.false number.before.if2.false (omega (arith, is))
     (sym (rw is at known.is_Known.ensures) ∙ low.before.before.if4.false) _ low.lowest-free.ensures.is c.if5.true
 
 slice-aggregate-put-entry : tie.Need-slice-aggregate-put-entry

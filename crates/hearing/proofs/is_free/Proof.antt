@@ -1,6 +1,6 @@
 -- `is_free`: by the first byte, and for an entry by its time.
 use mathlib.Core.Path.{sym, ◌∙◌}
-use Rattle.hearing.proofs.Places.{free-confirmable, free-non, free-unused}
+use Rattle.hearing.proofs.Places.{free_confirmable, free_non, free_unused}
 use borrow.Author.Rules.{rules}
 use Rattle.hearing.proofs.is_free.Statement.{statement}
 use Rattle.hearing.proofs.is_free.Tie as tie
@@ -18,7 +18,7 @@ add-result : tie.Need-overflow-add-result
 add-result c = search rules
 
 returns : tie.Need-returns
-returns c = free-confirmable _ _ _ _ (sym c.before.before.byte_at.ensures.is ∙ c.before.if1.true) c.four-at.ensures.is
+returns c = free_confirmable _ _ _ _ (sym c.before.before.byte_at.ensures.is ∙ c.before.if1.true) c.four-at.ensures.is
 
 add-four-at-2 : tie.Need-overflow-add-four-at-2
 add-four-at-2 c = search rules
@@ -30,10 +30,10 @@ add-result-2 : tie.Need-overflow-add-result-2
 add-result-2 c = search rules
 
 returns-2 : tie.Need-returns-2
-returns-2 c = free-non _ _ _ _ (sym c.before.before.before.byte_at.ensures.is ∙ c.before.if2.true) c.four-at2.ensures.is
+returns-2 c = free_non _ _ _ _ (sym c.before.before.before.byte_at.ensures.is ∙ c.before.if2.true) c.four-at2.ensures.is
 
 returns-3 : tie.Need-returns-3
-returns-3 c = free-unused _ _ _ (λ e. c.before.if1.false (c.before.before.byte_at.ensures.is ∙ e)) (λ e. c.if2.false (c.before.before.byte_at.ensures.is ∙ e))
+returns-3 c = free_unused _ _ _ (λ e. c.before.if1.false (c.before.before.byte_at.ensures.is ∙ e)) (λ e. c.if2.false (c.before.before.byte_at.ensures.is ∙ e))
 
 pub is_free_spec : {M : Type 1} → statement M
 is_free_spec =

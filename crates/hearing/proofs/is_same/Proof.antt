@@ -4,7 +4,7 @@ use mathlib.Core.Path.{sym, ap, ◌∙◌}
 use borrow.Author.Rules.{rules}
 use Rattle.ground.specs.Part.{part}
 use Rattle.rfc.specs.Duplicates.{alike}
-use Rattle.hearing.proofs.Places.{other, free_other, other-id, by-peer}
+use Rattle.hearing.proofs.Places.{other, free_other, other_id, by_peer}
 use Rattle.hearing.proofs.is_same.Statement.{statement}
 use Rattle.hearing.proofs.is_same.Tie as tie
 
@@ -34,7 +34,7 @@ returns-3 c =
     let live = c.before.before.before in
     let first = live.before.before in
     let start = first.before.before.before in
-    sym (other-id _ _ _ start.requires.1 (sym first.byte_at.ensures.is ∙ live.before.if1.false) (sym live.is_free.ensures ∙ c.before.before.if2.false)
+    sym (other_id _ _ _ start.requires.1 (sym first.byte_at.ensures.is ∙ live.before.if1.false) (sym live.is_free.ensures ∙ c.before.before.if2.false)
     (λ e. c.if3.true (c.before.two_at.ensures.is ∙ e)))
 
 add-are-at : tie.Need-overflow-add-are-at
@@ -52,7 +52,7 @@ returns-4 c =
     let whole = ap (λ (n : ℕ). alike (part start.args.table.now (start.args.at + 1) n) start.args.peer.now) start.requires.2 in
     c.are_at.ensures
     ∙ (whole
-    ∙ sym (by-peer _ _ _ start.requires.1 (sym first.byte_at.ensures.is ∙ live.before.if1.false) (sym live.is_free.ensures ∙ two.before.if2.false)
+    ∙ sym (by_peer _ _ _ start.requires.1 (sym first.byte_at.ensures.is ∙ live.before.if1.false) (sym live.is_free.ensures ∙ two.before.if2.false)
     (sym two.two_at.ensures.is ∙ c.before.if3.false)))
 
 pub is_same_spec : {M : Type 1} → statement M

@@ -5,7 +5,7 @@ use mathlib.Core.List.{List}
 use native.Mathlib.Omega.{arith}
 use Rattle.hearing.specs.Table.{Place, lowest}
 use Rattle.hearing.specs.Bytes.{places}
-use Rattle.hearing.proofs.Places.{Left, low_begin, low-found, low_turn, low_end}
+use Rattle.hearing.proofs.Places.{Left, low_begin, low_found, low_turn, low_end}
 use Rattle.hearing.proofs.lowest_free.Statement.{statement}
 use Rattle.hearing.proofs.lowest_free.Tie as tie
 
@@ -22,7 +22,7 @@ is-free-requires : tie.Need-is-free-requires invariant-loop decreases-loop
 is-free-requires c κs = omega (arith, c.before.loop.invariant.sum)
 
 returns : tie.Need-returns invariant-loop decreases-loop
-returns c = low-found _ _ _ c.before.before.before.loop.invariant (omega arith) (sym c.if1.true ∙ c.before.is_free.ensures)
+returns c = low_found _ _ _ c.before.before.before.loop.invariant (omega arith) (sym c.if1.true ∙ c.before.is_free.ensures)
 
 add_at : tie.Need-overflow-add-at invariant-loop decreases-loop
 add_at c = omega arith

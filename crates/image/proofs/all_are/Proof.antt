@@ -5,7 +5,7 @@ use native.Mathlib.Omega.{arith}
 use borrow.Author.Tests.{not-true, not-false}
 use Rattle.ground.specs.Part.{part}
 use Rattle.image.specs.Image.{alike}
-use Rattle.image.proofs.Spans.{none_left, past_end, other-left, same_left}
+use Rattle.image.proofs.Spans.{none_left, past_end, other_left, same_left}
 use Rattle.image.proofs.all_are.Statement.{statement}
 use Rattle.image.proofs.all_are.Tie as tie
 
@@ -30,7 +30,7 @@ returns-2 : tie.Need-returns-2 invariant-loop decreases-loop
 returns-2 c =
     let l = c.before.before.before.before.loop in
     let a = c.before.before.before.before.before.args in
-    sym (l.invariant ∙ other-left a.missing a.held.now l.unit a.to (omega arith) (omega arith) (not-true _ c.if2.true))
+    sym (l.invariant ∙ other_left a.missing a.held.now l.unit a.to (omega arith) (omega arith) (not-true _ c.if2.true))
 
 add-unit : tie.Need-overflow-add-unit invariant-loop decreases-loop
 add-unit c = omega arith

@@ -13,7 +13,7 @@ use Rattle.packet.proofs.Held.{full}
 use Rattle.judging.specs.Judge.{bad_packet, judged, judging}
 use Rattle.judging.specs.declared.Judged.TheVariants.{OptionsSize}
 use Rattle.judging.proofs.Order.{in_use}
-use Rattle.judging.proofs.Judging.{Judging, Follows, start, follows, turn, finds, no-fall, no_value, whole, bad-ranges, bad-records, judged-bad, judged_good}
+use Rattle.judging.proofs.Judging.{Judging, Follows, start, follows, turn, finds, no_fall, no_value, whole, bad_ranges_lem, bad_records, judged_bad, judged_good}
 use Rattle.judging.proofs.judge.Statement.{statement}
 use Rattle.judging.proofs.judge.Tie as tie
 
@@ -35,7 +35,7 @@ unfolding bad_packet
 ends c before size i w h =
     let past : length (records_of c.before.before.before.before.before.args.packet) ≤ i = omega (arith, used c.before.before) in
     judged_good _ _ _
-    (rw (le-ltb _ _ c.before.before.before.if1.false, le-ltb _ _ c.before.before.if2.false, no-fall _ _ _ _ _ w past, sym c.before.bad-ranges.ensures ∙ c.if3.false, no_value _ _ _ _ _ w past))
+    (rw (le-ltb _ _ c.before.before.before.if1.false, le-ltb _ _ c.before.before.if2.false, no_fall _ _ _ _ _ w past, sym c.before.bad-ranges.ensures ∙ c.if3.false, no_value _ _ _ _ _ w past))
     (whole _ _ _ _ _ w past)
 
 -- The records that are left begin with the one at hand.
@@ -56,17 +56,17 @@ again c =
 
 returns : tie.Need-returns invariant-loop decreases-loop
 unfolding bad_packet
-returns c = judged-bad _ _ (rw (lt-ltb _ _ c.if1.true))
+returns c = judged_bad _ _ (rw (lt-ltb _ _ c.if1.true))
 
 returns-2 : tie.Need-returns-2 invariant-loop decreases-loop
 unfolding bad_packet
-returns-2 c = judged-bad _ _ (rw (le-ltb _ _ c.before.if1.false, lt-ltb _ _ c.if2.true))
+returns-2 c = judged_bad _ _ (rw (le-ltb _ _ c.before.if1.false, lt-ltb _ _ c.if2.true))
 
 bad-ranges-requires : tie.Need-bad-ranges-requires invariant-loop decreases-loop
 bad-ranges-requires c κs = search rules
 
 returns-3 : tie.Need-returns-3 invariant-loop decreases-loop
-returns-3 c = judged-bad _ _ (bad-ranges _ _ (sym c.before.bad-ranges.ensures ∙ c.if3.true))
+returns-3 c = judged_bad _ _ (bad_ranges_lem _ _ (sym c.before.bad-ranges.ensures ∙ c.if3.true))
 
 returns-4 : tie.Need-returns-4 invariant-loop decreases-loop
 returns-4 c = ends c.before _ _ _ (start _ _) (omega arith)
@@ -86,7 +86,7 @@ bad-record-requires c κs = search rules
 returns-5 : tie.Need-returns-5 invariant-loop decreases-loop
 returns-5 c =
     let l = c.before.before.before in
-    judged-bad _ _ (bad-records _ _ (finds _ _ _ _ _ l.before.loop.invariant.1 _ (here l) (sym c.before.bad-record.ensures ∙ c.if5.true)))
+    judged_bad _ _ (bad_records _ _ (finds _ _ _ _ _ l.before.loop.invariant.1 _ (here l) (sym c.before.bad-record.ensures ∙ c.if5.true)))
 
 size-after-requires : tie.Need-size-after-requires invariant-loop decreases-loop
 size-after-requires c κs = (fits c).up

@@ -3,7 +3,7 @@ use mathlib.Core.Path.{sym}
 use native.Mathlib.Omega.{arith}
 use borrow.Author.Tests.{lt-ltb, le-ltb}
 use Rattle.laying.specs.Laying.{judged_option}
-use Rattle.laying.proofs.Laid.{judged-full, judged-fits}
+use Rattle.laying.proofs.Laid.{judged_full, judged_fits}
 use borrow.Author.Rules.{rules}
 use Rattle.laying.proofs.judged_option.Statement.{statement}
 use Rattle.laying.proofs.judged_option.Tie as tie
@@ -20,7 +20,7 @@ unfolding judged_option
 returns-2 c = rw (le-ltb _ _ c.before.if1.false, lt-ltb _ _ c.if2.true)
 
 returns-3 : tie.Need-returns-3
-returns-3 c = sym (judged-full _ _ _ _ _ c.before.before.if1.false c.before.if2.false (omega arith))
+returns-3 c = sym (judged_full _ _ _ _ _ c.before.before.if1.false c.before.if2.false (omega arith))
 
 cast-option-size : tie.Need-overflow-cast-option-size
 cast-option-size c = search rules
@@ -29,10 +29,10 @@ option-size-requires : tie.Need-option-size-requires
 option-size-requires c κs = search rules
 
 returns-4 : tie.Need-returns-4
-returns-4 c = sym (judged-full _ _ _ _ _ c.before.before.before.before.if1.false c.before.before.before.if2.false (omega (arith, c.before.option-size.ensures)))
+returns-4 c = sym (judged_full _ _ _ _ _ c.before.before.before.before.if1.false c.before.before.before.if2.false (omega (arith, c.before.option-size.ensures)))
 
 returns-5 : tie.Need-returns-5
-returns-5 c = rw c.before.option-size.ensures (sym (judged-fits _ _ _ _ _ c.before.before.before.before.if1.false c.before.before.before.if2.false (omega (arith, c.before.option-size.ensures))))
+returns-5 c = rw c.before.option-size.ensures (sym (judged_fits _ _ _ _ _ c.before.before.before.before.if1.false c.before.before.before.if2.false (omega (arith, c.before.option-size.ensures))))
 
 pub judged_option_spec : {M : Type 1} → statement M
 judged_option_spec =

@@ -2,27 +2,27 @@
 use mathlib.Core.Path.{refl}
 use borrow.Author.Tests.{lt-ltb, le-ltb}
 use Rattle.laying.specs.Laying.{laid_header}
-use Rattle.laying.proofs.Laid.{lays-refused, header_full, head_put}
+use Rattle.laying.proofs.Laid.{lays_refused, header_full, head_put}
 use borrow.Author.Rules.{rules}
 use Rattle.laying.proofs.put_header.Statement.{statement}
 use Rattle.laying.proofs.put_header.Tie as tie
 
 returns : tie.Need-returns
 unfolding laid_header
-returns c = lays-refused _ _ _ _ 11 _ refl (rw (lt-ltb _ _ c.if1.true))
+returns c = lays_refused _ _ _ _ 11 _ refl (rw (lt-ltb _ _ c.if1.true))
 
 cast-if2 : tie.Need-overflow-cast-if2
 cast-if2 c = search rules
 
 returns-2 : tie.Need-returns-2
 unfolding laid_header
-returns-2 c = lays-refused _ _ _ _ 11 _ refl (rw (le-ltb _ _ c.before.if1.false, lt-ltb _ _ c.if2.true))
+returns-2 c = lays_refused _ _ _ _ 11 _ refl (rw (le-ltb _ _ c.before.if1.false, lt-ltb _ _ c.if2.true))
 
 add-if3 : tie.Need-overflow-add-if3
 add-if3 c = search rules
 
 returns-3 : tie.Need-returns-3
-returns-3 c = lays-refused _ _ _ _ 12 _ refl (header_full _ _ _ c.before.before.if1.false c.before.if2.false c.if3.true)
+returns-3 c = lays_refused _ _ _ _ 12 _ refl (header_full _ _ _ c.before.before.if1.false c.before.if2.false c.if3.true)
 
 cast-to-raw : tie.Need-overflow-cast-to-raw
 cast-to-raw c = search rules

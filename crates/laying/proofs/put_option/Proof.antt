@@ -3,7 +3,7 @@ use mathlib.Core.Path.{refl, sym, ap, ◌∙◌}
 use native.Mathlib.Omega.{arith}
 use lib.ListN.{length}
 use Rattle.refusal.specs.Answer.{written}
-use Rattle.laying.proofs.Laid.{lays-refused, lays-given, laid_judged, Judged, judged_given}
+use Rattle.laying.proofs.Laid.{lays_refused, lays_given, laid_judged, Judged, judged_given}
 use Rattle.laying.proofs.Pieces.{option_delta}
 use borrow.Author.Rules.{rules}
 use Rattle.laying.proofs.put_option.Statement.{statement}
@@ -32,13 +32,13 @@ put-parts-requires : tie.Need-put-parts-requires
 put-parts-requires c κs = let j = judged_at_lem c.before.before in (omega arith, j.short, j.fits)
 
 returns : tie.Need-returns
-returns c = lays-refused _ _ _ _ _ _ refl (laid_judged _ _ _ _ ∙ (sym c.before.before.before.judged-option.ensures ∙ ap written c.before.e.given.1))
+returns c = lays_refused _ _ _ _ _ _ refl (laid_judged _ _ _ _ ∙ (sym c.before.before.before.judged-option.ensures ∙ ap written c.before.e.given.1))
 
 same_length : tie.Need-same-length
 same_length c = search rules
 
 returns-2 : tie.Need-returns-2
-returns-2 c = lays-given _ _ _ _ _ _ (laid_judged _ _ _ _ ∙ (sym c.before.before.before.before.before.before.before.judged-option.ensures ∙ ap written c.before.before.before.before.before.size.given.1)) (rw (option_delta _ _ _) at c.before.before.put-parts.ensures.out)
+returns-2 c = lays_given _ _ _ _ _ _ (laid_judged _ _ _ _ ∙ (sym c.before.before.before.before.before.before.before.judged-option.ensures ∙ ap written c.before.before.before.before.before.size.given.1)) (rw (option_delta _ _ _) at c.before.before.put-parts.ensures.out)
 
 pub put_option_spec : {M : Type 1} → statement M
 put_option_spec =

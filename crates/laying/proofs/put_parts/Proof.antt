@@ -4,9 +4,9 @@ use mathlib.Core.Path.{sym, ap, ◌∙◌}
 use native.Mathlib.Omega.{arith}
 use lib.ListN.{length, length-set}
 use Rattle.rfc.specs.Message.{nibble_of}
-use Rattle.rfc.proofs.Message.{nibble-small}
+use Rattle.rfc.proofs.Message.{nibble_small}
 use Rattle.placing.proofs.Puts.{put_length}
-use Rattle.laying.proofs.Pieces.{both_short, short-put, option_put}
+use Rattle.laying.proofs.Pieces.{both_short, short_put, option_put}
 use borrow.Author.Rules.{rules}
 use Rattle.laying.proofs.put_parts.Statement.{statement}
 use Rattle.laying.proofs.put_parts.Tie as tie
@@ -37,7 +37,7 @@ put-bytes-requires : tie.Need-put-bytes-requires
 put-bytes-requires c κs = search rules
 
 returns : tie.Need-returns
-returns c = let k = short_at c.before.before.before.before in short-put _ _ k.0 k.1 _ _ _ _ c.before.before.before.before.before.before.before.before.requires.2 c.before.before.put-bytes.ensures
+returns c = let k = short_at c.before.before.before.before in short_put _ _ k.0 k.1 _ _ _ _ c.before.before.before.before.before.before.before.before.requires.2 c.before.before.put-bytes.ensures
 
 same_length : tie.Need-same-length
 same_length c = put_length _ _ _ _ _ (returns c)
@@ -46,13 +46,13 @@ nibble-requires : tie.Need-nibble-requires
 nibble-requires c κs = search rules
 
 mul-out-2 : tie.Need-overflow-mul-out-2
-mul-out-2 c = let high : c.nibble.result ≤ 14 = rw c.nibble.ensures (nibble-small _) in omega arith
+mul-out-2 c = let high : c.nibble.result ≤ 14 = rw c.nibble.ensures (nibble_small _) in omega arith
 
 nibble-requires-2 : tie.Need-nibble-requires-2
 nibble-requires-2 c κs = search rules
 
 add-out-2 : tie.Need-overflow-add-out-2
-add-out-2 c = let high : c.before.nibble.result ≤ 14 = rw c.before.nibble.ensures (nibble-small _) in let low : c.nibble2.result ≤ 14 = rw c.nibble2.ensures (nibble-small _) in omega arith
+add-out-2 c = let high : c.before.nibble.result ≤ 14 = rw c.before.nibble.ensures (nibble_small _) in let low : c.nibble2.result ≤ 14 = rw c.nibble2.ensures (nibble_small _) in omega arith
 
 slice-write-out-2 : tie.Need-slice-write-out-2
 slice-write-out-2 c = search rules

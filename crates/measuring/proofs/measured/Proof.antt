@@ -6,16 +6,16 @@ use lib.ListN.{length-take}
 use Rattle.refusal.specs.Answer.{outcome}
 use Rattle.packet.specs.Packet.{records_of}
 use Rattle.judging.specs.Judge.{is_too_long, bad_packet, options_size}
-use Rattle.judging.proofs.Good.{good, is-good, is-bad, options_small}
+use Rattle.judging.proofs.Good.{good, is_good, is_bad, options_small}
 use Rattle.measuring.specs.Measuring.{measured}
-use Rattle.measuring.proofs.Sizes.{measured-bad, measured-good}
+use Rattle.measuring.proofs.Sizes.{measured_bad, measured_good}
 use borrow.Author.Rules.{rules}
 use Rattle.measuring.proofs.measured.Statement.{statement}
 use Rattle.measuring.proofs.measured.Tie as tie
 
 -- The packet is good, and its options were counted.
 good_at : (c : tie.After-options) → (bad_packet c.before.before.before.before.before.args.lengths c.before.before.before.before.before.args.packet ≡ false) × (c.options.given.0.0 ≡ options_size 0 (records_of c.before.before.before.before.before.args.packet))
-good_at c = is-good _ _ _ c.before.before.judge.ensures _ c.options.given.1
+good_at c = is_good _ _ _ c.before.before.judge.ensures _ c.options.given.1
 
 -- Neither store is too long.
 short_at : (c : tie.Else1) → is_too_long c.before.before.args.lengths ≡ false
@@ -50,13 +50,13 @@ sized-requires : tie.Need-sized-requires
 sized-requires c κs = let p = c.before.before.before.before.before.before.before.before.before.args.packet in let k = good_at c.before.before.before.before in let g = good _ _ k.0 in (k.1, omega (arith, k.1, options_small _ 0 (records_of p) g.values, length-take p.count p.options, g.count))
 
 returns-2 : tie.Need-returns-2
-returns-2 c = sym (measured-bad _ _ _ _ _ (short_at c.before.before.before) (is-bad _ _ _ c.before.before.judge.ensures c.enum_told.given.1))
+returns-2 c = sym (measured_bad _ _ _ _ _ (short_at c.before.before.before) (is_bad _ _ _ c.before.before.judge.ensures c.enum_told.given.1))
 
 returns-3 : tie.Need-returns-3
-returns-3 c = sym (measured-good _ _ _ _ _ (short_at c.before.before.before.before.before.before.before.before) (good_at c.before.before.before.before.before).0 ∙ rw (sym c.before.before.before.judged-strictly.ensures ∙ ap outcome c.before.e.given.1))
+returns-3 c = sym (measured_good _ _ _ _ _ (short_at c.before.before.before.before.before.before.before.before) (good_at c.before.before.before.before.before).0 ∙ rw (sym c.before.before.before.judged-strictly.ensures ∙ ap outcome c.before.e.given.1))
 
 returns-4 : tie.Need-returns-4
-returns-4 c = sym (measured-good _ _ _ _ _ (short_at c.before.before.before.before.before.before.before.before) (good_at c.before.before.before.before.before).0 ∙ rw (sym c.before.before.before.judged-strictly.ensures ∙ ap outcome c.before.enum-told2.given.1) (sym c.sized.ensures))
+returns-4 c = sym (measured_good _ _ _ _ _ (short_at c.before.before.before.before.before.before.before.before) (good_at c.before.before.before.before.before).0 ∙ rw (sym c.before.before.before.judged-strictly.ensures ∙ ap outcome c.before.enum-told2.given.1) (sym c.sized.ensures))
 
 pub measured_spec : {M : Type 1} → statement M
 measured_spec =

@@ -3,7 +3,7 @@ use Prim.Native.Nat.{ℕ, ◌+◌, ◌-◌, ◌≤◌}
 use mathlib.Core.Path.{sym, ◌∙◌}
 use native.Mathlib.Omega.{arith}
 use lib.ListN.{replicate, length-take}
-use Rattle.peer_reading.proofs.Putting.{same, off, held, sum_small, no-left, no-right, cut-long, cut_all}
+use Rattle.peer_reading.proofs.Putting.{same, off, held, sum_small, no_left, no_right, cut_long, cut_all}
 use borrow.Author.Rules.{rules}
 use Rattle.peer_reading.proofs.cut_peer.Statement.{statement}
 use Rattle.peer_reading.proofs.cut_peer.Tie as tie
@@ -19,7 +19,7 @@ no-peer-requires : tie.Need-no-peer-requires
 no-peer-requires c κs = search rules
 
 returns : tie.Need-returns
-returns c = same _ _ c.no-peer.result (no-left c.before.before.before.before.before.args.left.now c.before.before.before.before.before.args.right.now c.before.before.before.before.before.args.port (sym c.before.before.are-groups.ensures ∙ off _ c.before.if1.true)) c.no-peer.ensures
+returns c = same _ _ c.no-peer.result (no_left c.before.before.before.before.before.args.left.now c.before.before.before.before.before.args.right.now c.before.before.before.before.before.args.port (sym c.before.before.are-groups.ensures ∙ off _ c.before.if1.true)) c.no-peer.ensures
 
 are-groups-requires-2 : tie.Need-are-groups-requires-2
 are-groups-requires-2 c κs = search rules
@@ -28,7 +28,7 @@ no-peer-requires-2 : tie.Need-no-peer-requires-2
 no-peer-requires-2 c κs = search rules
 
 returns-2 : tie.Need-returns-2
-returns-2 c = same _ _ c.no-peer2.result (no-right c.before.before.before.before.before.before.before.args.left.now c.before.before.before.before.before.before.before.args.right.now c.before.before.before.before.before.before.before.args.port (sym c.before.before.before.before.are-groups.ensures ∙ held _ c.before.before.before.if1.false) (sym c.before.before.are-groups2.ensures ∙ off _ c.before.if2.true)) c.no-peer2.ensures
+returns-2 c = same _ _ c.no-peer2.result (no_right c.before.before.before.before.before.before.before.args.left.now c.before.before.before.before.before.before.before.args.right.now c.before.before.before.before.before.before.before.args.port (sym c.before.before.before.before.are-groups.ensures ∙ held _ c.before.before.before.if1.false) (sym c.before.before.are-groups2.ensures ∙ off _ c.before.if2.true)) c.no-peer2.ensures
 
 slice-aggregate-put-groups : tie.Need-slice-aggregate-put-groups
 slice-aggregate-put-groups c = search rules
@@ -49,7 +49,7 @@ no-peer-requires-3 : tie.Need-no-peer-requires-3
 no-peer-requires-3 c κs = search rules
 
 returns-3 : tie.Need-returns-3
-returns-3 c = same _ _ c.no-peer3.result (cut-long c.before.before.before.before.before.before.before.before.before.before.before.before.before.before.args.left.now c.before.before.before.before.before.before.before.before.before.before.before.before.before.before.args.right.now c.before.before.before.before.before.before.before.before.before.before.before.before.before.before.args.port (sym c.before.before.before.before.before.before.before.before.before.before.before.are-groups.ensures ∙ held _ c.before.before.before.before.before.before.before.before.before.before.if1.false) (sym c.before.before.before.before.before.before.before.before.before.are-groups2.ensures ∙ held _ c.before.before.before.before.before.before.before.before.if2.false) _ _ _ _ c.before.before.before.before.before.before.put-groups.ensures c.before.before.before.put-groups2.ensures c.before.if3.true) c.no-peer3.ensures
+returns-3 c = same _ _ c.no-peer3.result (cut_long c.before.before.before.before.before.before.before.before.before.before.before.before.before.before.args.left.now c.before.before.before.before.before.before.before.before.before.before.before.before.before.before.args.right.now c.before.before.before.before.before.before.before.before.before.before.before.before.before.before.args.port (sym c.before.before.before.before.before.before.before.before.before.before.before.are-groups.ensures ∙ held _ c.before.before.before.before.before.before.before.before.before.before.if1.false) (sym c.before.before.before.before.before.before.before.before.before.are-groups2.ensures ∙ held _ c.before.before.before.before.before.before.before.before.if2.false) _ _ _ _ c.before.before.before.before.before.before.put-groups.ensures c.before.before.before.put-groups2.ensures c.before.if3.true) c.no-peer3.ensures
 
 add-between : tie.Need-overflow-add-between
 add-between c = omega (arith, small c.before)

@@ -1,7 +1,7 @@
 -- `from_port`: the port, or none.
 use mathlib.Core.Path.{refl, sym, ap, ◌∙◌}
 use Rattle.decimal.specs.Decimal.{decimal_of}
-use Rattle.peer_reading.proofs.Numbered.{no-port, a-port}
+use Rattle.peer_reading.proofs.Numbered.{no_port, a_port}
 use Rattle.peer_reading.proofs.Putting.{same, answers}
 use borrow.Author.Rules.{rules}
 use Rattle.peer_reading.proofs.from_port.Statement.{statement}
@@ -20,7 +20,7 @@ no-peer-requires : tie.Need-no-peer-requires
 no-peer-requires c κs = search rules
 
 returns : tie.Need-returns
-returns c = same _ _ c.no-peer.result (no-port _ _ _ _ _ (sym (ap decimal_of c.before.enum_told.given.1) ∙ c.before.before.before.number_in.ensures)) c.no-peer.ensures
+returns c = same _ _ c.no-peer.result (no_port _ _ _ _ _ (sym (ap decimal_of c.before.enum_told.given.1) ∙ c.before.before.before.number_in.ensures)) c.no-peer.ensures
 
 cast-high : tie.Need-overflow-cast-high
 cast-high c = search rules
@@ -29,7 +29,7 @@ cast-low : tie.Need-overflow-cast-low
 cast-low c = search rules
 
 returns-2 : tie.Need-returns-2
-returns-2 c = answers _ _ _ (a-port _ _ _ _ _ _ (sym (ap decimal_of c.before.port.given.1) ∙ c.before.before.before.number_in.ensures)) refl
+returns-2 c = answers _ _ _ (a_port _ _ _ _ _ _ (sym (ap decimal_of c.before.port.given.1) ∙ c.before.before.before.number_in.ensures)) refl
 
 pub from_port_spec : {M : Type 1} → statement M
 from_port_spec =

@@ -4,7 +4,7 @@ use Prim.Native.Nat.{◌+◌, ◌≤◌}
 use native.Mathlib.Omega.{arith}
 use lib.ListN.{length, length-take}
 use Rattle.peer_reading.proofs.Grouping.{gap_inside}
-use Rattle.peer_reading.proofs.Putting.{same, without-gap, with-gap, cut_rest}
+use Rattle.peer_reading.proofs.Putting.{same, without_gap, with_gap, cut_rest}
 use borrow.Author.Rules.{rules}
 use Rattle.peer_reading.proofs.peer_at.Statement.{statement}
 use Rattle.peer_reading.proofs.peer_at.Tie as tie
@@ -20,7 +20,7 @@ whole-peer-requires : tie.Need-whole-peer-requires
 whole-peer-requires c κs = search rules
 
 returns : tie.Need-returns
-returns c = same _ _ c.whole-peer.result (without-gap c.before.before.before.before.args.text.now c.before.before.before.before.args.port _ c.before.before.gap-in.ensures c.before.if1.true) c.whole-peer.ensures
+returns c = same _ _ c.whole-peer.result (without_gap c.before.before.before.before.args.text.now c.before.before.before.before.args.port _ c.before.before.gap-in.ensures c.before.if1.true) c.whole-peer.ensures
 
 slice-aggregate-left : tie.Need-slice-aggregate-left
 slice-aggregate-left c = omega (arith, c.before.if1.false, length-take c.before.before.gap-in.result c.before.before.before.before.args.text.now)
@@ -41,7 +41,7 @@ cut-peer-requires : tie.Need-cut-peer-requires
 cut-peer-requires c κs = search rules
 
 returns-2 : tie.Need-returns-2
-returns-2 c = same _ _ c.cut-peer.result (with-gap c.before.before.before.before.before.before.args.text.now c.before.before.before.before.before.before.args.port _ c.before.before.before.before.gap-in.ensures c.before.before.before.if1.false ∙ cut_rest _ c.before.before.before.before.before.before.args.text.now _ c.before.before.before.before.before.before.args.port) c.cut-peer.ensures
+returns-2 c = same _ _ c.cut-peer.result (with_gap c.before.before.before.before.before.before.args.text.now c.before.before.before.before.before.before.args.port _ c.before.before.before.before.gap-in.ensures c.before.before.before.if1.false ∙ cut_rest _ c.before.before.before.before.before.before.args.text.now _ c.before.before.before.before.before.before.args.port) c.cut-peer.ensures
 
 pub peer_at_spec : {M : Type 1} → statement M
 peer_at_spec =

@@ -4,7 +4,7 @@ use mathlib.Core.Path.{◌≡◌, refl, sym, ◌∙◌}
 use mathlib.Core.Logic.{⊎_elim}
 use native.Mathlib.Omega.{arith}
 use Rattle.peers.specs.Text.{longest, longest_in}
-use Rattle.peers.proofs.Groups.{longest-more, longest-less, longest_done}
+use Rattle.peers.proofs.Groups.{longest_more, longest_less, longest_done}
 use borrow.Author.Rules.{rules}
 use Rattle.peers.proofs.longest.Statement.{statement}
 use Rattle.peers.proofs.longest.Tie as tie
@@ -41,12 +41,12 @@ loop-again c =
     (λ w. (
       omega arith,
       s.loop.invariant.1
-          ∙ rw (w.1, w.2, end) (longest-more _ s.loop.i _ _ (omega arith) (rw end at w.0.taken)),
+          ∙ rw (w.1, w.2, end) (longest_more _ s.loop.i _ _ (omega arith) (rw end at w.0.taken)),
     ))
     (λ w. (
       omega arith,
       s.loop.invariant.1
-          ∙ rw (w.1, w.2) (longest-less _ s.loop.i _ _ (omega arith) (rw end at w.0.left)),
+          ∙ rw (w.1, w.2) (longest_less _ s.loop.i _ _ (omega arith) (rw end at w.0.left)),
     ))
     c.if1.branch
 

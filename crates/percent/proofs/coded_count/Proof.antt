@@ -5,7 +5,7 @@ use native.Mathlib.Omega.{arith}
 use borrow.Author.Rules.{rules}
 use lib.ListN.{length}
 use Rattle.percent.specs.Step.{kind_of}
-use Rattle.percent.proofs.Coding.{Counting, counting_start, counting-end, counting-literal, counting-other}
+use Rattle.percent.proofs.Coding.{Counting, counting_start, counting_end, counting_literal, counting_other}
 use Rattle.percent.proofs.coded_count.Statement.{statement}
 use Rattle.percent.proofs.coded_count.Tie as tie
 
@@ -31,7 +31,7 @@ loop-less : tie.Need-loop-smaller invariant-loop decreases-loop
 loop-less c = omega arith
 
 loop-again : tie.Need-loop-preserved invariant-loop decreases-loop
-loop-again c = counting-literal _ _ _ _ c.before.before.before.before.loop.invariant c.before.before.before.loop-test.true (sym c.before.is-literal.ensures ∙ c.if1.true)
+loop-again c = counting_literal _ _ _ _ c.before.before.before.before.loop.invariant c.before.before.before.loop-test.true (sym c.before.is-literal.ensures ∙ c.if1.true)
 
 add-count : tie.Need-overflow-add-count invariant-loop decreases-loop
 add-count c = omega (arith, c.before.before.before.before.loop.invariant.few)
@@ -43,10 +43,10 @@ loop-less-2 : tie.Need-loop-smaller-2 invariant-loop decreases-loop
 loop-less-2 c = omega arith
 
 loop-again-2 : tie.Need-loop-preserved-2 invariant-loop decreases-loop
-loop-again-2 c = counting-other _ _ _ _ c.before.before.before.before.loop.invariant c.before.before.before.loop-test.true (sym c.before.is-literal.ensures ∙ c.if1.false)
+loop-again-2 c = counting_other _ _ _ _ c.before.before.before.before.loop.invariant c.before.before.before.loop-test.true (sym c.before.is-literal.ensures ∙ c.if1.false)
 
 returns : tie.Need-returns invariant-loop decreases-loop
-returns c = counting-end _ _ _ _ c.before.loop.invariant c.loop-test.false
+returns c = counting_end _ _ _ _ c.before.loop.invariant c.loop-test.false
 
 pub coded_count_spec : {M : Type 1} → statement M
 coded_count_spec =

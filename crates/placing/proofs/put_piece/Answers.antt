@@ -4,20 +4,20 @@ use Rattle.placing.specs.Put.{Puts, Put}
 use Rattle.placing.proofs.put_piece.Goals as goal
 
 -- src/lib.rt:143:5
-pub loop-i-init : goal.loop-i-init
-loop-i-init c = ?
+pub loop_i_init : goal.loop-i-init
+loop_i_init c = ?
 
 -- src/lib.rt:143:5
-pub loop-i-preserved : goal.loop-i-preserved
-loop-i-preserved c = ?
+pub loop_i_preserved : goal.loop-i-preserved
+loop_i_preserved c = ?
 
 -- src/lib.rt:148:5
-pub loop-j-init : goal.loop-j-init
-loop-j-init c = ?
+pub loop_j_init : goal.loop-j-init
+loop_j_init c = ?
 
 -- src/lib.rt:148:5
-pub loop-j-preserved : goal.loop-j-preserved
-loop-j-preserved c = ?
+pub loop_j_preserved : goal.loop-j-preserved
+loop_j_preserved c = ?
 
 -- src/lib.rt:136:1
 pub returns : goal.returns

@@ -3,16 +3,16 @@ use Rattle.rfc.specs.Uint.{uint}
 use Rattle.placing.specs.Put.{Puts, Put}
 use Rattle.placing.proofs.put_piece.Given as goal
 
-abbrev pub invariant-loop-i : goal.invariant-loop-i
-invariant-loop-i l = ?
+abbrev pub invariant_loop_i : goal.invariant-loop-i
+invariant_loop_i l = ?
 
 -- proposed from the loop's first test
-abbrev pub decreases-loop-i : goal.decreases-loop-i
-decreases-loop-i l = l.count - l.i
+abbrev pub decreases_loop_i : goal.decreases-loop-i
+decreases_loop_i l = l.count - l.i
 
-abbrev pub invariant-loop-j : goal.invariant-loop-j
-invariant-loop-j l = ?
+abbrev pub invariant_loop_j : goal.invariant-loop-j
+invariant_loop_j l = ?
 
 -- proposed from the loop's first test
-abbrev pub decreases-loop-j : goal.decreases-loop-j
-decreases-loop-j l = l.count - l.j
+abbrev pub decreases_loop_j : goal.decreases-loop-j
+decreases_loop_j l = l.count - l.j

@@ -4,16 +4,16 @@ use Rattle.placing.specs.Put.{Puts, Put}
 use Rattle.placing.proofs.uint_length.Goals as goal
 
 -- src/lib.rt:161:5
-pub loop-rest-init : goal.loop-rest-init
-loop-rest-init c = ?
+pub loop_rest_init : goal.loop-rest-init
+loop_rest_init c = ?
 
 -- src/lib.rt:163:17
-pub overflow_add-count : goal.overflow_add-count
-overflow_add-count c = ?
+pub overflow_add_count : goal.overflow_add-count
+overflow_add_count c = ?
 
 -- src/lib.rt:161:5
-pub loop-rest-preserved : goal.loop-rest-preserved
-loop-rest-preserved c = ?
+pub loop_rest_preserved : goal.loop-rest-preserved
+loop_rest_preserved c = ?
 
 -- src/lib.rt:156:1
 pub returns : goal.returns

@@ -4,8 +4,8 @@ use mathlib.Core.Path.{sym, ◌∙◌}
 use native.Mathlib.Omega.{arith}
 use lib.ListN.{length}
 use borrow.Author.Tests.{not-true, not-false}
-use Rattle.plan_checking.proofs.Accepted.{good-done, not_done}
-use Rattle.plan_checking.proofs.Tests.{told, told_not, clash, asked-held}
+use Rattle.plan_checking.proofs.Accepted.{good_done, not_done}
+use Rattle.plan_checking.proofs.Tests.{told, told_not, clash, asked_held}
 use Rattle.plan_checking.proofs.Left.{Left, begin, stuck, turn, at_end, not_end}
 use Rattle.plan_checking.proofs.check.Statement.{statement}
 use Rattle.plan_checking.proofs.check.Tie as tie
@@ -53,13 +53,13 @@ all-are-requires : tie.Need-all-are-requires invariant-loop decreases-loop
 all-are-requires c κs = tt
 
 returns-3 : tie.Need-returns-3 invariant-loop decreases-loop
-returns-3 c = sym (not_done _ _ _ (λ g. told_not (asked-held _ _ _ c.before.all_are.ensures) (not-true _ c.if3.true) (not_end _ _ _ _ _ c.before.before.before.loop.invariant (omega arith) g.plan)))
+returns-3 c = sym (not_done _ _ _ (λ g. told_not (asked_held _ _ _ c.before.all_are.ensures) (not-true _ c.if3.true) (not_end _ _ _ _ _ c.before.before.before.loop.invariant (omega arith) g.plan)))
 
 returns-4 : tie.Need-returns-4 invariant-loop decreases-loop
 returns-4 c =
-    sym (good-done _ _ _ (record {
+    sym (good_done _ _ _ (record {
       image = sym c.before.before.before.before.before.is-image.ensures ∙ not-false _ c.before.before.before.before.if1.false;
-      plan = at_end _ _ _ _ _ c.before.before.before.loop.invariant (omega arith) (told (asked-held _ _ _ c.before.all_are.ensures) (not-false _ c.if3.false));
+      plan = at_end _ _ _ _ _ c.before.before.before.loop.invariant (omega arith) (told (asked_held _ _ _ c.before.all_are.ensures) (not-false _ c.if3.false));
     }))
 
 pub check_spec : {M : Type 1} → statement M

@@ -3,7 +3,7 @@ use native.Mathlib.Omega.{arith}
 use borrow.Author.Tests.{not-true, not-false}
 use borrow.Author.Rules.{rules}
 use Rattle.plan_checking.specs.Steps.{no}
-use Rattle.plan_checking.proofs.Tests.{told, told_not, carry, asked-held, asked-missing}
+use Rattle.plan_checking.proofs.Tests.{told, told_not, carry, asked_held, asked_missing}
 use Rattle.plan_checking.proofs.follows.Statement.{statement}
 use Rattle.plan_checking.proofs.follows.Tie as tie
 
@@ -38,7 +38,7 @@ returns-5 : tie.Need-returns-5
 returns-5 c =
     let begun = c.before.before.before.before.before.before.before in
     let a = begun.before.before.before.before.args in
-    no (λ n. told_not (asked-held a.held.now a.at begun.start_of_lem.result c.before.all_are.ensures) (not-true _ c.if5.true) (rw begun.start_of_lem.ensures.is n.gap))
+    no (λ n. told_not (asked_held a.held.now a.at begun.start_of_lem.result c.before.all_are.ensures) (not-true _ c.if5.true) (rw begun.start_of_lem.ensures.is n.gap))
 
 all-are-requires-2 : tie.Need-all-are-requires-2
 all-are-requires-2 c κs = search rules
@@ -56,10 +56,10 @@ returns-6 c =
       after = omega (arith, s, flag.before.before.if2.false);
       inside = omega (arith, s, flag.before.if3.false);
       more = told flag.is-flagged.ensures (not-false _ c.before.before.before.if4.false);
-      gap = rw s at (told (asked-held a.held.now a.at begun.start_of_lem.result c.before.before.all_are.ensures) (not-false _ c.before.if5.false));
+      gap = rw s at (told (asked_held a.held.now a.at begun.start_of_lem.result c.before.before.all_are.ensures) (not-false _ c.before.if5.false));
       whole = rw (s, t) at w;
     })
-    (λ n. rw (s, t) n.whole) (asked-missing a.held.now begun.start_of_lem.result flag.before.before.before.stop-of.result c.all-are2.ensures)
+    (λ n. rw (s, t) n.whole) (asked_missing a.held.now begun.start_of_lem.result flag.before.before.before.stop-of.result c.all-are2.ensures)
 
 pub follows_spec : {M : Type 1} → statement M
 follows_spec =

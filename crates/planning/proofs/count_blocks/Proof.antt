@@ -2,7 +2,7 @@
 use Prim.Native.Nat.{◌-◌}
 use native.Mathlib.Omega.{arith}
 use lib.ListN.{length}
-use Rattle.planning.proofs.Loops.{Counted, none-counted, held-counted, block-counted, all-counted}
+use Rattle.planning.proofs.Loops.{Counted, none_counted, held_counted, block_counted, all_counted}
 use Rattle.planning.proofs.count_blocks.Statement.{statement}
 use Rattle.planning.proofs.count_blocks.Tie as tie
 
@@ -13,7 +13,7 @@ abbrev decreases-loop : tie.decreases-loop
 decreases-loop held unit₀ count₀ unit count = length held - unit
 
 loop-holds : tie.Need-loop-init invariant-loop decreases-loop
-loop-holds c = none-counted _
+loop-holds c = none_counted _
 
 shared-slice-read-if1 : tie.Need-shared-slice-read-if1 invariant-loop decreases-loop
 shared-slice-read-if1 c = omega arith
@@ -31,7 +31,7 @@ loop-less : tie.Need-loop-smaller invariant-loop decreases-loop
 loop-less c = omega (arith, c.before.largest-at.ensures.wide.least)
 
 loop-again : tie.Need-loop-preserved invariant-loop decreases-loop
-loop-again c = block-counted _ _ _ c.before.before.before.before.before.loop.invariant (omega arith) _ _ c.before.before.if1.true c.before.largest-at.ensures
+loop-again c = block_counted _ _ _ c.before.before.before.before.before.loop.invariant (omega arith) _ _ c.before.before.if1.true c.before.largest-at.ensures
 
 add-unit-2 : tie.Need-overflow-add-unit-2 invariant-loop decreases-loop
 add-unit-2 c = omega arith
@@ -40,10 +40,10 @@ loop-less-2 : tie.Need-loop-smaller-2 invariant-loop decreases-loop
 loop-less-2 c = omega arith
 
 loop-again-2 : tie.Need-loop-preserved-2 invariant-loop decreases-loop
-loop-again-2 c = held-counted _ _ _ c.before.before.before.loop.invariant (omega arith) c.if1.false
+loop-again-2 c = held_counted _ _ _ c.before.before.before.loop.invariant (omega arith) c.if1.false
 
 returns : tie.Need-returns invariant-loop decreases-loop
-returns c = all-counted _ _ _ c.before.loop.invariant (omega arith)
+returns c = all_counted _ _ _ c.before.loop.invariant (omega arith)
 
 pub count_blocks_spec : {M : Type 1} → statement M
 count_blocks_spec =

@@ -9,8 +9,8 @@ use borrow.Author.Rules.{rules}
 use Rattle.image.specs.Image.{fits}
 use Rattle.planning.specs.Planner.{planned}
 use Rattle.image.proofs.Fitting.{few_units}
-use Rattle.planning.proofs.Answered.{bad-image, too_long, written_out}
-use Rattle.planning.proofs.Bound.{half-as-many}
+use Rattle.planning.proofs.Answered.{bad_image, too_long, written_out}
+use Rattle.planning.proofs.Bound.{half_as_many}
 use Rattle.planning.proofs.plan.Statement.{statement}
 use Rattle.planning.proofs.plan.Tie as tie
 
@@ -18,7 +18,7 @@ passed : (c : tie.Else1) → fits c.before.before.before.before.args.size c.befo
 passed c = sym c.before.is-image.ensures ∙ not-false _ c.if1.false
 
 roomy : (c : tie.Then2) → length (planned c.before.before.before.before.before.args.size c.before.before.before.before.before.args.held.now) ≤ length c.before.before.before.before.before.args.list.now
-roomy c = omega (arith, c.if2.true, half-as-many c.before.before.before.before.before.args.size c.before.before.before.before.before.args.held.now)
+roomy c = omega (arith, c.if2.true, half_as_many c.before.before.before.before.before.args.size c.before.before.before.before.before.args.held.now)
 
 counted : (c : tie.Else3) → length (planned c.before.before.before.before.before.before.before.args.size c.before.before.before.before.before.before.before.args.held.now) ≤ length c.before.before.before.before.before.before.before.args.list.now
 counted c = omega (arith, c.if3.false, c.before.count-blocks.ensures c.before.before.before.before.before.before.before.args.size)
@@ -27,7 +27,7 @@ is-image-requires : tie.Need-is-image-requires
 is-image-requires c κs = search rules
 
 returns : tie.Need-returns
-returns c = bad-image _ _ _ (sym c.before.is-image.ensures ∙ not-true _ c.if1.true)
+returns c = bad_image _ _ _ (sym c.before.is-image.ensures ∙ not-true _ c.if1.true)
 
 add-if2 : tie.Need-overflow-add-if2
 add-if2 c = search rules

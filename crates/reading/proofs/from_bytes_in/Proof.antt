@@ -9,7 +9,7 @@ use Rattle.refusal.specs.Answer.{Answer, given, onward, beside}
 use Rattle.header.specs.Header.{raw_read, token_of}
 use Rattle.packet.specs.declared.Packet.{Packet}
 use Rattle.option_reading.specs.Answers.{found_of}
-use Rattle.reading.proofs.Headed.{Opened, headed-opens}
+use Rattle.reading.proofs.Headed.{Opened, headed_opens}
 use Rattle.option_reading.specs.Option.{Place, place_at, placed}
 use Rattle.reading.specs.Options.{Tail, options}
 use Rattle.packet.specs.Packet.{new_packet}
@@ -30,7 +30,7 @@ decreases-loop strict buf raw token_length most records₀ count₀ number₀ id
 opened : (c : tie.After-raw invariant-loop decreases-loop) → Opened c.before.before.before.before.args.strict c.before.before.before.before.args.buf.now (reading c.before.before.before.before.args.strict c.before.before.before.before.args.buf.now) (given c.raw.given.0.0)
 opened c =
     let a = c.before.before.before.before.args in
-    subst (Opened a.strict a.buf.now (reading a.strict a.buf.now)) (sym c.before.before.opening.ensures ∙ ap raw_read c.raw.given.1) (headed-opens a.strict a.buf.now)
+    subst (Opened a.strict a.buf.now (reading a.strict a.buf.now)) (sym c.before.before.opening.ensures ∙ ap raw_read c.raw.given.1) (headed_opens a.strict a.buf.now)
 
 -- Where the options' answer is known, so is the whole one.
 answer_is : (c : tie.After-place-at invariant-loop decreases-loop) (a : Answer Tail)
@@ -72,7 +72,7 @@ returns : tie.Need-returns invariant-loop decreases-loop
 returns c =
     let o = c.before.before.before.before in
     let a = o.before.before.args in
-    let h = subst (Opened a.strict a.buf.now (reading a.strict a.buf.now)) (sym o.opening.ensures ∙ ap raw_read c.before.before.e.given.1) (headed-opens a.strict a.buf.now) in
+    let h = subst (Opened a.strict a.buf.now (reading a.strict a.buf.now)) (sym o.opening.ensures ∙ ap raw_read c.before.before.e.given.1) (headed_opens a.strict a.buf.now) in
     c.refused.ensures ∙ ap (beside new_packet) (sym h.is)
 
 enum-known-raw : tie.Need-enum-known-raw invariant-loop decreases-loop

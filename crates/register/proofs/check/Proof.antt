@@ -4,14 +4,14 @@ use mathlib.Core.Bool.{false}
 use borrow.Author.Rules.{rules}
 use Rattle.judging.specs.Judge.{bad_packet}
 use Rattle.judging.specs.declared.Lengths.{Lengths}
-use Rattle.judging.proofs.Good.{good, is-bad, is-good}
+use Rattle.judging.proofs.Good.{good, is_bad, is_good}
 use Rattle.register.specs.Check.{if_in_order, Checks}
 use Rattle.register.proofs.check.Statement.{statement}
 use Rattle.register.proofs.check.Tie as tie
 
 -- The packet that is walked over has no bad record.
 no_bad : (c : tie.After-enum-told2) → bad_packet c.before.before.before.before.before.of.result c.before.before.before.before.before.before.before.before.args.packet ≡ false
-no_bad c = (is-good _ _ _ c.before.before.judge.ensures _ c.enum-told2.given.1).0
+no_bad c = (is_good _ _ _ c.before.before.judge.ensures _ c.enum-told2.given.1).0
 
 of-requires : tie.Need-of-requires
 of-requires c κs = search rules
@@ -49,7 +49,7 @@ unfolding if_in_order
 returns-2 c =
     let b = c.before.before.before.before in
     subst (λ (n : Lengths). Checks n b.before.before.before.before.before.args.packet c.refused2.result) b.before.before.of.ensures
-    (rw (sym b.before.too_long.ensures ∙ b.if1.false, is-bad _ _ _ c.before.before.before.judge.ensures c.before.enum_told.given.1)
+    (rw (sym b.before.too_long.ensures ∙ b.if1.false, is_bad _ _ _ c.before.before.before.judge.ensures c.before.enum_told.given.1)
     c.refused2.ensures)
 
 returns-3 : tie.Need-returns-3

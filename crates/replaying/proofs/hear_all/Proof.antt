@@ -1,5 +1,5 @@
 -- `hear_all`: what was listed, and what the calls that are left will leave, make the whole.
-use Rattle.replaying.proofs.Walk.{ReplayWalk, walk_start, walk-size, walk_ends, walk-onward, walk-table, walk-stops, walk-place, walk_turn}
+use Rattle.replaying.proofs.Walk.{ReplayWalk, walk_start, walk_size, walk_ends, walk_onward, walk_table, walk_stops, walk_place, walk_turn}
 use Rattle.replaying.specs.Turns.{calls}
 use Rattle.hearing.specs.Hearing.{heard_of}
 use native.Mathlib.Omega.{arith}
@@ -23,7 +23,7 @@ arrival-at-requires : tie.Need-arrival-at-requires invariant-loop decreases-loop
 arrival-at-requires c κs = search rules
 
 sub-hear-listed : tie.Need-overflow-sub-hear-listed invariant-loop decreases-loop
-sub-hear-listed c = omega (arith, c.before.before.loop.invariant.going.room, walk-size _ _ _ _ _ _ _ _ _ _ c.before.before.loop.invariant)
+sub-hear-listed c = omega (arith, c.before.before.loop.invariant.going.room, walk_size _ _ _ _ _ _ _ _ _ _ c.before.before.loop.invariant)
 
 hear-listed-requires : tie.Need-hear-listed-requires invariant-loop decreases-loop
 hear-listed-requires c κs = search rules
@@ -32,13 +32,13 @@ enum-known-e : tie.Need-enum-known-e invariant-loop decreases-loop
 enum-known-e c = search rules
 
 same_length : tie.Need-same-length invariant-loop decreases-loop
-same_length c = walk-table _ _ _ _ _ _ _ _ _ _ c.before.before.before.before.before.before.before.before.before.loop.invariant c.before.before.before.before.before.before.before.before.loop-test.true c.before.before.before.before.before.before.before.arrival-at.result c.before.before.before.before.before.before.before.arrival-at.ensures _ _ c.before.before.before.before.before.hear-listed.ensures
+same_length c = walk_table _ _ _ _ _ _ _ _ _ _ c.before.before.before.before.before.before.before.before.before.loop.invariant c.before.before.before.before.before.before.before.before.loop-test.true c.before.before.before.before.before.before.before.arrival-at.result c.before.before.before.before.before.before.before.arrival-at.ensures _ _ c.before.before.before.before.before.hear-listed.ensures
 
 same-length-2 : tie.Need-same-length-2 invariant-loop decreases-loop
-same-length-2 c = walk-size _ _ _ _ _ _ _ _ _ _ c.before.before.before.before.before.before.before.before.before.loop.invariant
+same-length-2 c = walk_size _ _ _ _ _ _ _ _ _ _ c.before.before.before.before.before.before.before.before.before.loop.invariant
 
 returns : tie.Need-returns invariant-loop decreases-loop
-returns c = walk-stops _ _ _ _ _ _ _ _ _ _ c.before.before.before.before.before.before.before.before.before.loop.invariant c.before.before.before.before.before.before.before.before.loop-test.true c.before.before.before.before.before.before.before.arrival-at.result c.before.before.before.before.before.before.before.arrival-at.ensures _ _ c.before.before.before.before.before.hear-listed.ensures _ (ap heard_of c.before.e.given.1)
+returns c = walk_stops _ _ _ _ _ _ _ _ _ _ c.before.before.before.before.before.before.before.before.before.loop.invariant c.before.before.before.before.before.before.before.before.loop-test.true c.before.before.before.before.before.before.before.arrival-at.result c.before.before.before.before.before.before.before.arrival-at.ensures _ _ c.before.before.before.before.before.hear-listed.ensures _ (ap heard_of c.before.e.given.1)
 
 enum-known-v : tie.Need-enum-known-v invariant-loop decreases-loop
 enum-known-v c = search rules
@@ -47,13 +47,13 @@ letter-requires : tie.Need-letter-requires invariant-loop decreases-loop
 letter-requires c κs = search rules
 
 slice-write-listing : tie.Need-slice-write-listing invariant-loop decreases-loop
-slice-write-listing c = walk-place _ _ _ _ _ _ _ _ _ _ c.before.before.before.before.before.before.before.before.before.before.loop.invariant c.before.before.before.before.before.before.before.before.before.loop-test.true c.before.before.before.before.before.before.before.before.arrival-at.result c.before.before.before.before.before.before.before.before.arrival-at.ensures _ _ c.before.before.before.before.before.before.hear-listed.ensures _ (ap heard_of c.before.before.v.given.1)
+slice-write-listing c = walk_place _ _ _ _ _ _ _ _ _ _ c.before.before.before.before.before.before.before.before.before.before.loop.invariant c.before.before.before.before.before.before.before.before.before.loop-test.true c.before.before.before.before.before.before.before.before.arrival-at.result c.before.before.before.before.before.before.before.before.arrival-at.ensures _ _ c.before.before.before.before.before.before.hear-listed.ensures _ (ap heard_of c.before.before.v.given.1)
 
 add-count : tie.Need-overflow-add-count invariant-loop decreases-loop
-add-count c = omega (arith, walk-place _ _ _ _ _ _ _ _ _ _ c.before.before.before.before.before.before.before.before.before.before.loop.invariant c.before.before.before.before.before.before.before.before.before.loop-test.true c.before.before.before.before.before.before.before.before.arrival-at.result c.before.before.before.before.before.before.before.before.arrival-at.ensures _ _ c.before.before.before.before.before.before.hear-listed.ensures _ (ap heard_of c.before.before.v.given.1))
+add-count c = omega (arith, walk_place _ _ _ _ _ _ _ _ _ _ c.before.before.before.before.before.before.before.before.before.before.loop.invariant c.before.before.before.before.before.before.before.before.before.loop-test.true c.before.before.before.before.before.before.before.before.arrival-at.result c.before.before.before.before.before.before.before.before.arrival-at.ensures _ _ c.before.before.before.before.before.before.hear-listed.ensures _ (ap heard_of c.before.before.v.given.1))
 
 loop-less : tie.Need-loop-smaller invariant-loop decreases-loop
-loop-less c = omega (arith, c.before.before.before.before.before.before.before.before.before.loop-test.true, walk-onward _ _ _ _ _ _ _ _ _ _ c.before.before.before.before.before.before.before.before.before.before.loop.invariant c.before.before.before.before.before.before.before.before.before.loop-test.true c.before.before.before.before.before.before.before.before.arrival-at.result c.before.before.before.before.before.before.before.before.arrival-at.ensures)
+loop-less c = omega (arith, c.before.before.before.before.before.before.before.before.before.loop-test.true, walk_onward _ _ _ _ _ _ _ _ _ _ c.before.before.before.before.before.before.before.before.before.before.loop.invariant c.before.before.before.before.before.before.before.before.before.loop-test.true c.before.before.before.before.before.before.before.before.arrival-at.result c.before.before.before.before.before.before.before.before.arrival-at.ensures)
 
 loop-again : tie.Need-loop-preserved invariant-loop decreases-loop
 loop-again c = walk_turn _ _ _ _ _ _ _ _ _ _ c.before.before.before.before.before.before.before.before.before.before.loop.invariant c.before.before.before.before.before.before.before.before.before.loop-test.true c.before.before.before.before.before.before.before.before.arrival-at.result c.before.before.before.before.before.before.before.before.arrival-at.ensures _ _ c.before.before.before.before.before.before.hear-listed.ensures _ (ap heard_of c.before.before.v.given.1) _ c.letter.ensures
@@ -62,7 +62,7 @@ same-length-3 : tie.Need-same-length-3 invariant-loop decreases-loop
 same-length-3 c = c.before.loop.invariant.size
 
 same-length-4 : tie.Need-same-length-4 invariant-loop decreases-loop
-same-length-4 c = walk-size _ _ _ _ _ _ _ _ _ _ c.before.loop.invariant
+same-length-4 c = walk_size _ _ _ _ _ _ _ _ _ _ c.before.loop.invariant
 
 returns-2 : tie.Need-returns-2 invariant-loop decreases-loop
 returns-2 c = walk_ends _ _ _ _ _ _ _ _ _ _ c.before.loop.invariant c.loop-test.false

@@ -1,5 +1,5 @@
 -- `replay`: judged, then the table is cleared, then the calls in turn.
-use Rattle.replaying.proofs.Begun.{not-begun, not-judged, no_table, follows, begun}
+use Rattle.replaying.proofs.Begun.{not_begun, not_judged, no_table, follows, begun}
 use Rattle.tracing.proofs.Counted.{Counted, counted, uncounted}
 use Rattle.tracing.specs.Judging.{judged}
 use Rattle.refusal.specs.Answer.{outcome}
@@ -40,7 +40,7 @@ hear-all-requires c κs =
     follows _ o.messages o.are _ f.form-of.ensures
 
 returns : tie.Need-returns
-returns c = not-begun _ _ _ _ (not-judged _ c.before.before.before.before.before.before.before.args.table.now _ (uncounted _ _ (sym (ap judged c.before.e.given.1) ∙ c.before.before.before.judge.ensures)))
+returns c = not_begun _ _ _ _ (not_judged _ c.before.before.before.before.before.before.before.args.table.now _ (uncounted _ _ (sym (ap judged c.before.e.given.1) ∙ c.before.before.before.judge.ensures)))
 
 same_length : tie.Need-same-length
 same_length c = search rules

@@ -6,7 +6,7 @@ use Rattle.header.specs.Header.{raw_read}
 use Rattle.packet.specs.declared.Packet.{Packet}
 use Rattle.scanning.specs.Scanning.{span_of}
 use Rattle.scanning.specs.Plain.{Open}
-use Rattle.scanning.proofs.Judged.{headed-refused, headed-open}
+use Rattle.scanning.proofs.Judged.{headed_refused, headed_open}
 use borrow.Author.Rules.{rules}
 use Rattle.scanning.proofs.judge.Statement.{statement}
 use Rattle.scanning.proofs.judge.Tie as tie
@@ -15,7 +15,7 @@ use Rattle.scanning.proofs.judge.Tie as tie
 opened : (c : tie.After-token-length) → Open c.before.before.before.before.before.before.args.strict c.before.before.before.before.before.before.args.datagram.now (4 + c.token_length.result)
 opened c =
     let a = c.before.before.before.before.before.before.args in
-    rw c.token_length.ensures (headed-open a.strict a.datagram.now _ (sym c.before.before.before.before.opening.ensures ∙ ap raw_read c.before.before.raw.given.1))
+    rw c.token_length.ensures (headed_open a.strict a.datagram.now _ (sym c.before.before.before.before.opening.ensures ∙ ap raw_read c.before.before.raw.given.1))
 
 opening-requires : tie.Need-opening-requires
 opening-requires c κs = search rules
@@ -54,7 +54,7 @@ returns-2 : tie.Need-returns-2
 returns-2 c =
     let o = c.before.before.before in
     let a = o.before.before.args in
-    ap (λ (x : Answer Packet). onward x (λ p. given (span_of p))) (sym (headed-refused a.strict a.datagram.now _ (sym o.opening.ensures ∙ ap raw_read c.before.e.given.1)))
+    ap (λ (x : Answer Packet). onward x (λ p. given (span_of p))) (sym (headed_refused a.strict a.datagram.now _ (sym o.opening.ensures ∙ ap raw_read c.before.e.given.1)))
 
 returns-3 : tie.Need-returns-3
 returns-3 c = c.bare.ensures ∙ sym (opened c.before.before.before).rest

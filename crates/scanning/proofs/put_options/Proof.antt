@@ -8,7 +8,7 @@ use Rattle.flat.proofs.Flat as Flat
 use Rattle.packet.proofs.Records.{none_left}
 use Rattle.option_reading.specs.Option.{Value}
 use Rattle.scanning.specs.Plain.{value_of}
-use Rattle.scanning.proofs.Plain.{Second, Here, here, second-turn}
+use Rattle.scanning.proofs.Plain.{Second, Here, here, second_turn}
 use Rattle.scanning.proofs.put_options.Statement.{statement}
 use Rattle.scanning.proofs.put_options.Tie as tie
 
@@ -125,7 +125,7 @@ loop-again c =
     let u = c.before.before.before in
     let i = u.before.before.before.before in
     let number = ap (λ (v : Value). i.before.loop.number + v.value) (delta_is u.before) in
-    second-turn _ _ _ _ _ _ _ _ i.before.loop.invariant i.loop-test.true (at_place i) _ _ _ number (ap (λ (v : Value). v.next) (size_is u)) (ap (λ (v : Value). v.value) (size_is u))
+    second_turn _ _ _ _ _ _ _ _ i.before.loop.invariant i.loop-test.true (at_place i) _ _ _ number (ap (λ (v : Value). v.next) (size_is u)) (ap (λ (v : Value). v.value) (size_is u))
 
 same_length : tie.Need-same-length invariant-loop decreases-loop
 same_length c = c.before.loop.invariant.putting.kept

@@ -3,7 +3,7 @@ use Prim.Native.Nat.{◌+◌}
 use mathlib.Core.Path.{sym, ap, ◌∙◌}
 use Rattle.header.specs.Header.{raw_read}
 use Rattle.scanning.specs.Plain.{Open}
-use Rattle.scanning.proofs.Judged.{headed-refused, headed-open, scan-refused}
+use Rattle.scanning.proofs.Judged.{headed_refused, headed_open, scan_refused}
 use borrow.Author.Rules.{rules}
 use Rattle.scanning.proofs.scan.Statement.{statement}
 use Rattle.scanning.proofs.scan.Tie as tie
@@ -12,7 +12,7 @@ use Rattle.scanning.proofs.scan.Tie as tie
 opened : (c : tie.After-token-length) → Open c.before.before.before.before.before.before.before.args.strict c.before.before.before.before.before.before.before.args.datagram.now (4 + c.token_length.result)
 opened c =
     let a = c.before.before.before.before.before.before.before.args in
-    rw c.token_length.ensures (headed-open a.strict a.datagram.now _ (sym c.before.before.before.before.opening.ensures ∙ ap raw_read c.before.before.raw.given.1))
+    rw c.token_length.ensures (headed_open a.strict a.datagram.now _ (sym c.before.before.before.before.opening.ensures ∙ ap raw_read c.before.before.raw.given.1))
 
 opening-requires : tie.Need-opening-requires
 opening-requires c κs = search rules
@@ -51,7 +51,7 @@ returns-2 : tie.Need-returns-2
 returns-2 c =
     let o = c.before.before.before in
     let a = o.before.before.before.args in
-    scan-refused a.strict a.datagram.now a.out.now _ (headed-refused a.strict a.datagram.now _ (sym o.opening.ensures ∙ ap raw_read c.before.e.given.1))
+    scan_refused a.strict a.datagram.now a.out.now _ (headed_refused a.strict a.datagram.now _ (sym o.opening.ensures ∙ ap raw_read c.before.e.given.1))
 
 same-length-2 : tie.Need-same-length-2
 same-length-2 c = search rules

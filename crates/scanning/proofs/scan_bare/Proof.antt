@@ -4,7 +4,7 @@ use native.Mathlib.Omega.{arith}
 use Rattle.ground.proofs.Part.{bytes_of}
 use Rattle.reading.specs.Reading.{reading}
 use Rattle.scanning.specs.Scanning.{span_of, extent_of}
-use Rattle.scanning.proofs.Judged.{Good, good, none_found, refused_read, scan-refused, scan-full, scan-head}
+use Rattle.scanning.proofs.Judged.{Good, good, none_found, refused_read, scan_refused, scan_full, scan_head}
 use borrow.Author.Rules.{rules}
 use Rattle.scanning.proofs.scan_bare.Statement.{statement}
 use Rattle.scanning.proofs.scan_bare.Tie as tie
@@ -29,7 +29,7 @@ returns : tie.Need-returns
 returns c =
     let k = c.before.before in
     let a = k.before.before.before.before.before.args in
-    scan-full a.strict a.datagram.now a.out.now _ (judged_good k) (omega (arith, c.if1.true))
+    scan_full a.strict a.datagram.now a.out.now _ (judged_good k) (omega (arith, c.if1.true))
 
 put-head-requires : tie.Need-put-head-requires
 put-head-requires c κs =
@@ -41,7 +41,7 @@ returns-2 c =
     let n = c.before.before.before in
     let k = n.before.before.before in
     let a = k.args in
-    scan-refused a.strict a.datagram.now a.out.now _ (refused_read (reading a.strict a.datagram.now) span_of _ (sym (ap extent_of c.before.e.given.1) ∙ (n.bare.ensures ∙ sym k.requires.0.rest)))
+    scan_refused a.strict a.datagram.now a.out.now _ (refused_read (reading a.strict a.datagram.now) span_of _ (sym (ap extent_of c.before.e.given.1) ∙ (n.bare.ensures ∙ sym k.requires.0.rest)))
 
 same_length : tie.Need-same-length
 same_length c = search rules
@@ -53,7 +53,7 @@ returns-3 c =
     let k = e.before.before in
     let p = k.before.before.before.before.before in
     let a = p.args in
-    scan-head a.strict a.datagram.now a.out.now _ (judged_good k) (none_found a.strict a.datagram.now a.start p.requires.0 p.requires.1) (omega (arith, e.if1.false)) _ h.put-head.ensures
+    scan_head a.strict a.datagram.now a.out.now _ (judged_good k) (none_found a.strict a.datagram.now a.start p.requires.0 p.requires.1) (omega (arith, e.if1.false)) _ h.put-head.ensures
 
 pub scan_bare_spec : {M : Type 1} → statement M
 scan_bare_spec =

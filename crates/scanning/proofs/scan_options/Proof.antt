@@ -8,7 +8,7 @@ use Rattle.ground.proofs.Part.{bytes_of}
 use Rattle.reading.specs.Reading.{reading}
 use Rattle.scanning.specs.Scanning.{span_of, extent_of}
 use Rattle.scanning.specs.Plain.{head_in, options_from, Places}
-use Rattle.scanning.proofs.Judged.{Good, good, refused_read, scan-refused, scan-full, scan-puts}
+use Rattle.scanning.proofs.Judged.{Good, good, refused_read, scan_refused, scan_full, scan_puts}
 use borrow.Author.Rules.{rules}
 use Rattle.scanning.proofs.scan_options.Statement.{statement}
 use Rattle.scanning.proofs.scan_options.Tie as tie
@@ -42,7 +42,7 @@ returns : tie.Need-returns
 returns c =
     let k = c.before.before in
     let a = k.before.before.before.before.before.before.before.args in
-    scan-full a.strict a.datagram.now a.out.now _ (judged_good k) c.if1.true
+    scan_full a.strict a.datagram.now a.out.now _ (judged_good k) c.if1.true
 
 put-head-requires : tie.Need-put-head-requires
 put-head-requires c κs =
@@ -64,7 +64,7 @@ returns-2 : tie.Need-returns-2
 returns-2 c =
     let n = c.before.before.before.before in
     let a = n.before.before.before.before.args in
-    scan-refused a.strict a.datagram.now a.out.now _ (refused_read (reading a.strict a.datagram.now) span_of _ (sym (ap extent_of c.before.e.given.1) ∙ (n.walked.ensures.0 ∙ sym n.before.before.before.before.requires.rest)))
+    scan_refused a.strict a.datagram.now a.out.now _ (refused_read (reading a.strict a.datagram.now) span_of _ (sym (ap extent_of c.before.e.given.1) ∙ (n.walked.ensures.0 ∙ sym n.before.before.before.before.requires.rest)))
 
 same_length : tie.Need-same-length
 same_length c = search rules
@@ -76,7 +76,7 @@ returns-3 c =
     let e = h.before.before in
     let k = e.before.before in
     let a = k.before.before.before.before.before.before.before.args in
-    scan-puts a.strict a.datagram.now a.out.now _ (judged_good k) (omega (arith, e.if1.false)) _ _ h.put-head.ensures p.put-options.ensures
+    scan_puts a.strict a.datagram.now a.out.now _ (judged_good k) (omega (arith, e.if1.false)) _ _ h.put-head.ensures p.put-options.ensures
 
 pub scan_options_spec : {M : Type 1} → statement M
 scan_options_spec =

@@ -11,7 +11,7 @@ use Rattle.refusal.proofs.Answers.{on_given}
 use Rattle.option_reading.specs.Answers.{found_of}
 use Rattle.option_reading.specs.Option.{Place, place_at, placed}
 use Rattle.option_reading.proofs.Within.{Inside, place_inside}
-use Rattle.scanning.proofs.Judged.{Going, going_start, going-turn, going-refuses, going-overflows, going-ends, told, told_refused, spanned-alone, spanned-well}
+use Rattle.scanning.proofs.Judged.{Going, going_start, going_turn, going_refuses, going_overflows, going_ends, told, told_refused, spanned_alone, spanned_well}
 use Rattle.scanning.proofs.walked.Statement.{statement}
 use Rattle.scanning.proofs.walked.Tie as tie
 
@@ -55,7 +55,7 @@ returns c =
     let p = c.before.before.before in
     let a = p.before.before.before.before.before.args in
     let e = sym (place p) ∙ ap found_of c.before.e.given.1 in
-    told_refused a.strict a.buf.now a.start _ p.before.loop.places p.before.before.longest-value.ensures _ (going-refuses _ _ _ _ _ _ _ p.before.loop.invariant.0 _ e)
+    told_refused a.strict a.buf.now a.start _ p.before.loop.places p.before.before.longest-value.ensures _ (going_refuses _ _ _ _ _ _ _ p.before.loop.invariant.0 _ e)
 
 enum-known-marked : tie.Need-enum-known-marked invariant-loop decreases-loop
 enum-known-marked c = search rules
@@ -72,8 +72,8 @@ returns-2 c =
     let p = m.before.before in
     let a = p.before.before.before.before.before.args in
     let e = sym (place p) ∙ ap found_of m.marked.given.1 in
-    told a.strict a.buf.now a.start _ p.before.loop.places p.before.before.longest-value.ensures _ (going-ends _ _ _ _ _ _ _ p.before.loop.invariant.0 _ _ e) _
-    (spanned-alone a.strict a.buf.now a.start _ (sym c.before.marker-alone.ensures ∙ c.if1.true)) p.before.loop.invariant.0.noted
+    told a.strict a.buf.now a.start _ p.before.loop.places p.before.before.longest-value.ensures _ (going_ends _ _ _ _ _ _ _ p.before.loop.invariant.0 _ _ e) _
+    (spanned_alone a.strict a.buf.now a.start _ (sym c.before.marker-alone.ensures ∙ c.if1.true)) p.before.loop.invariant.0.noted
 
 same-length-3 : tie.Need-same-length-3 invariant-loop decreases-loop
 same-length-3 c = c.before.before.before.before.before.before.loop.invariant.1
@@ -85,8 +85,8 @@ returns-3 c =
     let g = p.before.loop.invariant.0 in
     let a = p.before.before.before.before.before.args in
     let e = sym (place p) ∙ ap found_of m.marked.given.1 in
-    told a.strict a.buf.now a.start _ p.before.loop.places p.before.before.longest-value.ensures _ (going-ends _ _ _ _ _ _ _ g _ _ e) _
-    (rw (g.counted, g.ends) (spanned-well a.strict a.buf.now a.start _ (sym c.before.marker-alone.ensures ∙ c.if1.false))) g.noted
+    told a.strict a.buf.now a.start _ p.before.loop.places p.before.before.longest-value.ensures _ (going_ends _ _ _ _ _ _ _ g _ _ e) _
+    (rw (g.counted, g.ends) (spanned_well a.strict a.buf.now a.start _ (sym c.before.marker-alone.ensures ∙ c.if1.false))) g.noted
 
 enum-known-r : tie.Need-enum-known-r invariant-loop decreases-loop
 enum-known-r c = search rules
@@ -100,7 +100,7 @@ returns-4 c =
     let p = r.before.before in
     let e = sym (place p) ∙ ap found_of r.r.given.1 in
     let a = p.before.before.before.before.before.args in
-    told_refused a.strict a.buf.now a.start _ p.before.loop.places p.before.before.longest-value.ensures _ (going-overflows _ _ _ _ _ _ _ p.before.loop.invariant.0 _ e c.if2.true)
+    told_refused a.strict a.buf.now a.start _ p.before.loop.places p.before.before.longest-value.ensures _ (going_overflows _ _ _ _ _ _ _ p.before.loop.invariant.0 _ e c.if2.true)
 
 cast-note : tie.Need-overflow-cast-note invariant-loop decreases-loop
 cast-note c = let l = c.before.before.before.before.before.before in omega (arith, l.loop.invariant.0.inside, l.before.before.before.before.requires.1)
@@ -133,7 +133,7 @@ loop-again c =
     let p = r.before.before in
     let l = p.before.loop in
     let e = sym (place p) ∙ ap found_of r.r.given.1 in (
-      rw n.note.ensures (going-turn _ _ _ _ _ _ _ l.invariant.0 _ e (omega arith) (inside p _ (ap found_of r.r.given.1))),
+      rw n.note.ensures (going_turn _ _ _ _ _ _ _ l.invariant.0 _ e (omega arith) (inside p _ (ap found_of r.r.given.1))),
       n.note.auto.0 ∙ l.invariant.1,
     )
 

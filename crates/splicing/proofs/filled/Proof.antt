@@ -7,8 +7,8 @@ use lib.ListN.{get_or}
 use borrow.Author.Rules.{rules}
 use Rattle.packet.specs.Packet.{records_of}
 use Rattle.splicing.specs.Splice.{record_of, ranges_in, spliced}
-use Rattle.splicing.proofs.Copied.{Filling, fills_none, fills-more, fills-all}
-use Rattle.splicing.proofs.Places.{whole_long, from-lower, from-new, from-higher}
+use Rattle.splicing.proofs.Copied.{Filling, fills_none, fills_more, fills_all}
+use Rattle.splicing.proofs.Places.{whole_long, from_lower, from_new, from_higher}
 use Rattle.splicing.proofs.filled.Statement.{statement}
 use Rattle.splicing.proofs.filled.Tie as tie
 
@@ -50,7 +50,7 @@ loop-again c =
     let l = c.before.before.before in
     let s = l.before.before.before in
     let a = s.args in
-    fills-more _ _ _ _ l.loop.invariant c.before.before.loop-test.true _ (from-lower a.packet a.number a.low a.high a.ranges.now s.requires.low_in l.loop.i c.before.if1.true)
+    fills_more _ _ _ _ l.loop.invariant c.before.before.loop-test.true _ (from_lower a.packet a.number a.low a.high a.ranges.now s.requires.low_in l.loop.i c.before.if1.true)
 
 mul_at : tie.Need-overflow-mul-at invariant-loop decreases-loop
 mul_at c = search rules
@@ -103,9 +103,9 @@ loop-again-2 c =
     let s = l.before.before.before in
     let a = s.args in
     let at = (l.loop.i - a.low) * 3 in
-    fills-more _ _ _ _ l.loop.invariant e.before.loop-test.true _
+    fills_more _ _ _ _ l.loop.invariant e.before.loop-test.true _
     (ap (λ home. record { number = a.number; home = home; spare = 0; start = get_or a.ranges.now (at + 1) 0; len = get_or a.ranges.now (at + 2) 0 }) h.Home-of.ensures
-    ∙ from-new a.packet a.number a.low a.high a.ranges.now s.requires.low_in l.loop.i e.if1.false t.if2.true)
+    ∙ from_new a.packet a.number a.low a.high a.ranges.now s.requires.low_in l.loop.i e.if1.false t.if2.true)
 
 add_at : tie.Need-overflow-add-at invariant-loop decreases-loop
 add_at c = search rules
@@ -134,10 +134,10 @@ loop-again-3 c =
     let l = e.before.before in
     let s = l.before.before.before in
     let a = s.args in
-    fills-more _ _ _ _ l.loop.invariant e.before.loop-test.true _ (from-higher a.packet a.number a.low a.high a.ranges.now s.requires.low_in l.loop.i c.before.if2.false (omega (arith, e.before.loop-test.true, s.requires.long)))
+    fills_more _ _ _ _ l.loop.invariant e.before.loop-test.true _ (from_higher a.packet a.number a.low a.high a.ranges.now s.requires.low_in l.loop.i c.before.if2.false (omega (arith, e.before.loop-test.true, s.requires.long)))
 
 returns : tie.Need-returns invariant-loop decreases-loop
-returns c = fills-all _ _ _ _ c.before.loop.invariant c.loop-test.false c.before.before.before.before.args.packet
+returns c = fills_all _ _ _ _ c.before.loop.invariant c.loop-test.false c.before.before.before.before.args.packet
 
 pub filled_spec : {M : Type 1} → statement M
 filled_spec =

@@ -14,7 +14,7 @@ use Rattle.packet.specs.declared.Packet.{Packet}
 use Rattle.packet.specs.declared.Range.{Range}
 use Rattle.packet.proofs.Held.{full}
 use Rattle.splicing.specs.Splice.{roomy, record_of, ranges_in, homeless, homed, spliced}
-use Rattle.splicing.proofs.Homes.{at-no-home, at_home}
+use Rattle.splicing.proofs.Homes.{at_no_home, at_home}
 use Rattle.splicing.proofs.Places.{whole_long, spliced_within, no_room, room}
 use Rattle.splicing.proofs.spliced.Statement.{statement}
 use Rattle.splicing.proofs.spliced.Tie as tie
@@ -66,7 +66,7 @@ returns : tie.Need-returns
 returns c =
     let h = c.before.before in
     let a = h.before.before.args in
-    c.refused.ensures ∙ ap (beside a.packet) (at-no-home a.ranges.now (edit a.packet a.low a.high a.number) (sym h.homeless.ensures ∙ c.before.if1.taken))
+    c.refused.ensures ∙ ap (beside a.packet) (at_no_home a.ranges.now (edit a.packet a.low a.high a.number) (sym h.homeless.ensures ∙ c.before.if1.taken))
 
 option-count-requires : tie.Need-option-count-requires
 option-count-requires c κs = search rules

@@ -5,7 +5,7 @@ use native.Mathlib.Omega.{arith}
 use native.Mathlib.Nat.{add-zero}
 use Rattle.ground.specs.Part.{part}
 use Rattle.stream.specs.Messages.{zeros}
-use Rattle.stream.proofs.Heads.{zeros-turn, zeros-stop, zeros-end}
+use Rattle.stream.proofs.Heads.{zeros_turn, zeros_stop, zeros_end}
 use Rattle.stream.proofs.all_zero.Statement.{statement}
 use Rattle.stream.proofs.all_zero.Tie as tie
 
@@ -28,7 +28,7 @@ returns : tie.Need-returns invariant-loop decreases-loop
 returns c =
     let l = c.before.before.before in
     let a = l.before.args in
-    sym (l.loop.invariant.1 ∙ zeros-stop a.stream.now a.from a.n l.loop.i (omega arith) (omega arith) c.if1.true)
+    sym (l.loop.invariant.1 ∙ zeros_stop a.stream.now a.from a.n l.loop.i (omega arith) (omega arith) c.if1.true)
 
 add-i : tie.Need-overflow-add-i invariant-loop decreases-loop
 add-i c = omega arith
@@ -40,12 +40,12 @@ loop-again : tie.Need-loop-preserved invariant-loop decreases-loop
 loop-again c =
     let l = c.before.before.before in
     let a = l.before.args in
-    (omega arith, l.loop.invariant.1 ∙ zeros-turn a.stream.now a.from a.n l.loop.i (omega arith) (omega arith) c.if1.false)
+    (omega arith, l.loop.invariant.1 ∙ zeros_turn a.stream.now a.from a.n l.loop.i (omega arith) (omega arith) c.if1.false)
 
 returns-2 : tie.Need-returns-2 invariant-loop decreases-loop
 returns-2 c =
     let a = c.before.before.args in
-    sym (c.before.loop.invariant.1 ∙ zeros-end a.stream.now a.from a.n c.before.loop.i (omega arith) (omega arith))
+    sym (c.before.loop.invariant.1 ∙ zeros_end a.stream.now a.from a.n c.before.loop.i (omega arith) (omega arith))
 
 pub all_zero_spec : {M : Type 1} → statement M
 all_zero_spec =

@@ -8,7 +8,7 @@ use Rattle.refusal.specs.Answer.{given}
 use Rattle.stream.specs.Messages.{chunk_at}
 use Rattle.stream.specs.Answers.{chunk_read}
 use Rattle.stream.proofs.Sound.{Chunk, inside_of}
-use Rattle.stream.proofs.Walk.{BodyWalk, body-start, body_ends, body-stops, body_refused, body-turn, chunk_of}
+use Rattle.stream.proofs.Walk.{BodyWalk, body_start, body_ends, body_stops, body_refused, body_turn, chunk_of}
 use Rattle.stream.proofs.body_at.Statement.{statement}
 use Rattle.stream.proofs.body_at.Tie as tie
 
@@ -30,7 +30,7 @@ full-of-requires : tie.Need-full-of-requires invariant-loop decreases-loop
 full-of-requires c κs = search rules
 
 loop-holds : tie.Need-loop-init invariant-loop decreases-loop
-loop-holds c = rw c.full-of.ensures (body-start c.before.before.args.form c.before.before.args.stream.now c.before.before.args.from c.before.before.requires)
+loop-holds c = rw c.full-of.ensures (body_start c.before.before.args.form c.before.before.args.stream.now c.before.before.args.from c.before.before.requires)
 
 byte-at-requires : tie.Need-byte-at-requires invariant-loop decreases-loop
 byte-at-requires c κs = search rules
@@ -45,7 +45,7 @@ returns-2 : tie.Need-returns-2 invariant-loop decreases-loop
 returns-2 c =
     let b = c.before.before in
     let l = b.before in
-    body-stops _ _ _ _ _ _ l.loop.invariant (λ q. c.before.if1.false (b.byte_at.ensures.is ∙ q)) (omega (arith, l.before.full-of.ensures))
+    body_stops _ _ _ _ _ _ l.loop.invariant (λ q. c.before.if1.false (b.byte_at.ensures.is ∙ q)) (omega (arith, l.before.full-of.ensures))
 
 chunk-at-requires : tie.Need-chunk-at-requires invariant-loop decreases-loop
 chunk-at-requires c κs = c.before.before.before.loop.invariant.inside
@@ -91,7 +91,7 @@ loop-again c =
     let b = k.before.before.before in
     let l = b.before in
     rw (c.before.head_of.ensures, c.padding-of.ensures)
-    (body-turn _ _ _ _ _ _ l.loop.invariant n.n.given.0.0 (λ q. k.before.before.if1.false (b.byte_at.ensures.is ∙ q)) (omega (arith, l.before.full-of.ensures)) (read_chunk n))
+    (body_turn _ _ _ _ _ _ l.loop.invariant n.n.given.0.0 (λ q. k.before.before.if1.false (b.byte_at.ensures.is ∙ q)) (omega (arith, l.before.full-of.ensures)) (read_chunk n))
 
 pub body_at_spec : {M : Type 1} → statement M
 body_at_spec =

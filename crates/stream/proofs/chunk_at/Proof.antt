@@ -7,7 +7,7 @@ use Rattle.ground.specs.Part.{part}
 use Rattle.refusal.specs.Answer.{given, refused}
 use Rattle.stream.specs.Stream.{head_size}
 use Rattle.stream.specs.Messages.{chunk_at, zeros}
-use Rattle.stream.proofs.Heads.{full_small, head_small, padding_small, chunk-none, chunk-over, chunk-cut, chunk_whole}
+use Rattle.stream.proofs.Heads.{full_small, head_small, padding_small, chunk_none, chunk_over, chunk_cut, chunk_whole}
 use borrow.Author.Rules.{rules}
 use Rattle.stream.proofs.chunk_at.Statement.{statement}
 use Rattle.stream.proofs.chunk_at.Tie as tie
@@ -30,13 +30,13 @@ count-at-requires : tie.Need-count-at-requires
 count-at-requires c κs = search rules
 
 returns : tie.Need-returns
-returns c = chunk-none _ _ _ _ c.before.count_at.ensures c.if1.true
+returns c = chunk_none _ _ _ _ c.before.count_at.ensures c.if1.true
 
 full-of-requires : tie.Need-full-of-requires
 full-of-requires c κs = search rules
 
 returns-2 : tie.Need-returns-2
-returns-2 c = chunk-over _ _ _ _ c.before.before.before.count_at.ensures c.before.before.if1.false (omega (arith, c.before.full-of.ensures))
+returns-2 c = chunk_over _ _ _ _ c.before.before.before.count_at.ensures c.before.before.if1.false (omega (arith, c.before.full-of.ensures))
 
 head-of-requires : tie.Need-head-of-requires
 head-of-requires c κs = search rules
@@ -64,7 +64,7 @@ returns-3 c =
     let p = c.before in
     let f = p.before.before.before in
     let k = f.before.before in
-    chunk-cut _ _ _ _ k.count_at.ensures f.before.if1.false (omega (arith, f.full-of.ensures)) (omega (arith, p.padding-of.ensures, p.before.head_of.ensures))
+    chunk_cut _ _ _ _ k.count_at.ensures f.before.if1.false (omega (arith, f.full-of.ensures)) (omega (arith, p.padding-of.ensures, p.before.head_of.ensures))
 
 add-all-zero : tie.Need-overflow-add-all-zero
 add-all-zero c = search rules

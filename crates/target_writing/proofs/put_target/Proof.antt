@@ -7,7 +7,7 @@ use Rattle.rfc.specs.Uri.{segment, query}
 use Rattle.placing.proofs.Puts.{puts_puts}
 use Rattle.packet.specs.Packet.{stores}
 use Rattle.target_writing.specs.ToText.{text_in}
-use Rattle.target_writing.proofs.Texts.{packet_small, path_length_small, text_size, no-room-for, room_for}
+use Rattle.target_writing.proofs.Texts.{packet_small, path_length_small, text_size, no_room_for, room_for}
 use borrow.Author.Rules.{rules}
 use Rattle.target_writing.proofs.put_target.Statement.{statement}
 use Rattle.target_writing.proofs.put_target.Tie as tie
@@ -38,7 +38,7 @@ add-if1 c =
     )
 
 returns : tie.Need-returns
-returns c = no-room-for (stores c.before.before.before.before.before.before.before.args.datagram.now c.before.before.before.before.before.before.before.args.edits.now) c.before.before.before.before.before.before.before.args.packet _ _ _ (size c.before) c.if1.true
+returns c = no_room_for (stores c.before.before.before.before.before.before.before.args.datagram.now c.before.before.before.before.before.before.before.args.edits.now) c.before.before.before.before.before.before.before.args.packet _ _ _ (size c.before) c.if1.true
 
 put-path-requires : tie.Need-put-path-requires
 put-path-requires c κs = search rules

@@ -9,7 +9,7 @@ use Rattle.packet.specs.Packet.{stores, none}
 use Rattle.packet.proofs.Held.{full}
 use Rattle.percent.specs.Step.{kind_of}
 use Rattle.percent.proofs.Coding.{others_small}
-use Rattle.target_writing.proofs.Texts.{value_short, Counting, counting_start, counting-end, counting-value, counting-other}
+use Rattle.target_writing.proofs.Texts.{value_short, Counting, counting_start, counting_end, counting_value, counting_other}
 use Rattle.target_writing.proofs.text_length.Statement.{statement}
 use Rattle.target_writing.proofs.text_length.Tie as tie
 
@@ -65,7 +65,7 @@ loop-again : tie.Need-loop-preserved invariant-loop decreases-loop
 loop-again c =
     let l = c.before.before.before.before.before.before in
     let a = l.before.before.before.before.args in
-    (l.loop.invariant.0, (l.loop.invariant.1.0, rw (c.coded-count.ensures, c.before.value.ensures.0) (counting-value _ _ _ a.packet.options a.packet.count _ _ l.loop.invariant.1.1 (omega (arith, l.loop.invariant.0, l.loop.invariant.1.0, length-take a.packet.count a.packet.options)) c.before.before.before.before.before.before.before.before.before.before.requires.short c.before.before.if1.true)))
+    (l.loop.invariant.0, (l.loop.invariant.1.0, rw (c.coded-count.ensures, c.before.value.ensures.0) (counting_value _ _ _ a.packet.options a.packet.count _ _ l.loop.invariant.1.1 (omega (arith, l.loop.invariant.0, l.loop.invariant.1.0, length-take a.packet.count a.packet.options)) c.before.before.before.before.before.before.before.before.before.before.requires.short c.before.before.if1.true)))
 
 add-i-2 : tie.Need-overflow-add-i-2 invariant-loop decreases-loop
 add-i-2 c = omega arith
@@ -77,10 +77,10 @@ loop-again-2 : tie.Need-loop-preserved-2 invariant-loop decreases-loop
 loop-again-2 c =
     let l = c.before.before.before.before in
     let a = l.before.before.before.before.args in
-    (l.loop.invariant.0, (l.loop.invariant.1.0, counting-other _ _ _ a.packet.options a.packet.count _ _ l.loop.invariant.1.1 (omega (arith, l.loop.invariant.0, l.loop.invariant.1.0, length-take a.packet.count a.packet.options)) c.if1.false))
+    (l.loop.invariant.0, (l.loop.invariant.1.0, counting_other _ _ _ a.packet.options a.packet.count _ _ l.loop.invariant.1.1 (omega (arith, l.loop.invariant.0, l.loop.invariant.1.0, length-take a.packet.count a.packet.options)) c.if1.false))
 
 returns : tie.Need-returns invariant-loop decreases-loop
-returns c = counting-end _ _ _ c.before.before.before.before.before.args.packet.options c.before.before.before.before.before.args.packet.count _ _ c.before.loop.invariant.1.1 (omega (arith, c.loop-test.false, length-take c.before.before.before.before.before.args.packet.count c.before.before.before.before.before.args.packet.options))
+returns c = counting_end _ _ _ c.before.before.before.before.before.args.packet.options c.before.before.before.before.before.args.packet.count _ _ c.before.loop.invariant.1.1 (omega (arith, c.loop-test.false, length-take c.before.before.before.before.before.args.packet.count c.before.before.before.before.before.args.packet.options))
 
 pub text_length_spec : {M : Type 1} → statement M
 text_length_spec =

@@ -4,15 +4,15 @@ use mathlib.Core.Bool.{true, false}
 use Rattle.packet.specs.Packet.{stores}
 use Rattle.judging.specs.Judge.{is_too_long, bad_packet}
 use Rattle.judging.specs.declared.Lengths.{Lengths}
-use Rattle.judging.proofs.Good.{good, is-bad, is-good}
-use Rattle.target_writing.proofs.Texts.{too_long, bad-record, good_record}
+use Rattle.judging.proofs.Good.{good, is_bad, is_good}
+use Rattle.target_writing.proofs.Texts.{too_long, bad_record, good_record}
 use borrow.Author.Rules.{rules}
 use Rattle.target_writing.proofs.write_target.Statement.{statement}
 use Rattle.target_writing.proofs.write_target.Tie as tie
 
 -- The packet that is put has no bad record.
 no_bad : (c : tie.After-enum-told2) → bad_packet c.before.before.before.before.before.of.result c.before.before.before.before.before.before.before.before.before.args.packet ≡ false
-no_bad c = (is-good _ _ _ c.before.before.judge.ensures _ c.enum-told2.given.1).0
+no_bad c = (is_good _ _ _ c.before.before.judge.ensures _ c.enum-told2.given.1).0
 
 of-requires : tie.Need-of-requires
 of-requires c κs = search rules
@@ -36,7 +36,7 @@ put-target-requires : tie.Need-put-target-requires
 put-target-requires c κs = record { count = (good _ _ (no_bad c.before)).count; short = (ap is_too_long (sym c.before.before.before.before.before.before.of.ensures) ∙ (sym c.before.before.before.before.before.too_long.ensures ∙ c.before.before.before.before.if1.false)) }
 
 returns-2 : tie.Need-returns-2
-returns-2 c = bad-record (stores c.before.before.before.before.before.before.before.before.before.args.datagram.now c.before.before.before.before.before.before.before.before.before.args.edits.now) _ _ (ap is_too_long (sym c.before.before.before.before.before.of.ensures) ∙ (sym c.before.before.before.before.too_long.ensures ∙ c.before.before.before.if1.false)) (subst (λ (n : Lengths). bad_packet n c.before.before.before.before.before.before.before.before.before.args.packet ≡ true) c.before.before.before.before.before.of.ensures (is-bad _ _ _ c.before.before.judge.ensures c.enum_told.given.1))
+returns-2 c = bad_record (stores c.before.before.before.before.before.before.before.before.before.args.datagram.now c.before.before.before.before.before.before.before.before.before.args.edits.now) _ _ (ap is_too_long (sym c.before.before.before.before.before.of.ensures) ∙ (sym c.before.before.before.before.too_long.ensures ∙ c.before.before.before.if1.false)) (subst (λ (n : Lengths). bad_packet n c.before.before.before.before.before.before.before.before.before.args.packet ≡ true) c.before.before.before.before.before.of.ensures (is_bad _ _ _ c.before.before.judge.ensures c.enum_told.given.1))
 
 same_length : tie.Need-same-length
 same_length c = search rules

@@ -9,7 +9,7 @@ use Rattle.stream.specs.Stream.{full}
 use Rattle.stream.specs.Messages.{body_at, end_of_chunk}
 use Rattle.stream.proofs.Sound.{full_some}
 use Rattle.thawing.specs.Message.{body_bytes}
-use Rattle.thawing.proofs.Copy.{CopyWalk, copy_start, copy_done, copy-part, copy-inside, copy-turn}
+use Rattle.thawing.proofs.Copy.{CopyWalk, copy_start, copy_done, copy_part, copy_inside, copy_turn}
 use Rattle.thawing.proofs.copy_chunks.Statement.{statement}
 use Rattle.thawing.proofs.copy_chunks.Tie as tie
 
@@ -47,10 +47,10 @@ facts c =
     record {
       least = e;
       more = h;
-      inside = copy-inside a.form a.stream.now d a.out.now a.to l.loop.out l.loop.at l.loop.done l.loop.next l.loop.invariant n h e;
+      inside = copy_inside a.form a.stream.now d a.out.now a.to l.loop.out l.loop.at l.loop.done l.loop.next l.loop.invariant n h e;
       part = ap (λ (x : ℕ). take x (drop from a.stream.now)) k
           ∙ (ap (λ (x : ℕ). take n (drop (l.loop.at + x) a.stream.now)) l.before.head_of.ensures
-          ∙ copy-part a.form a.stream.now d a.out.now a.to l.loop.out l.loop.at l.loop.done l.loop.next l.loop.invariant n h e);
+          ∙ copy_part a.form a.stream.now d a.out.now a.to l.loop.out l.loop.at l.loop.done l.loop.next l.loop.invariant n h e);
     }
 
 head-of-requires : tie.Need-head-of-requires invariant-loop decreases-loop
@@ -102,7 +102,7 @@ loop-again c =
     let l = n.before.before in
     let f = facts n in
     rw (l.before.head_of.ensures, c.padding-of.ensures)
-    (copy-turn _ _ _ _ _ _ _ _ _ l.loop.invariant _ f.more f.least _ _ (rw f.part at p.put-bytes.ensures))
+    (copy_turn _ _ _ _ _ _ _ _ _ l.loop.invariant _ f.more f.least _ _ (rw f.part at p.put-bytes.ensures))
 
 same_length : tie.Need-same-length invariant-loop decreases-loop
 same_length c = c.before.loop.invariant.put.kept

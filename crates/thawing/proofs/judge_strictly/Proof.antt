@@ -6,7 +6,7 @@ use borrow.Author.Rules.{rules}
 use lib.ListN.{length}
 use Rattle.stream.specs.Answers.{step_read}
 use Rattle.thawing.proofs.Accepting.{Accepted, accepted}
-use Rattle.thawing.proofs.Judging.{StrictWalk, strict-start, strict-ends, strict-stops, strict-turn, strict-room, few_chunks}
+use Rattle.thawing.proofs.Judging.{StrictWalk, strict_start, strict_ends, strict_stops, strict_turn, strict_room, few_chunks}
 use Rattle.thawing.proofs.judge_strictly.Statement.{statement}
 use Rattle.thawing.proofs.judge_strictly.Tie as tie
 
@@ -22,7 +22,7 @@ read : (c : tie.After-len invariant-loop decreases-loop) → Accepted c.before.b
 read c = accepted _ _ _ _ _ (sym c.before.before.strict-at.ensures ∙ ap step_read c.len.given.1)
 
 loop-holds : tie.Need-loop-init invariant-loop decreases-loop
-loop-holds c = strict-start _ _ _
+loop-holds c = strict_start _ _ _
 
 strict-at-requires : tie.Need-strict-at-requires invariant-loop decreases-loop
 strict-at-requires c κs = search rules
@@ -38,7 +38,7 @@ refused-from-requires c κs =
 returns : tie.Need-returns invariant-loop decreases-loop
 returns c =
     let k = c.before.before.before.before in
-    strict-stops _ _ _ _ _ _ _ k.before.before.loop.invariant _ c.refused-from.ensures
+    strict_stops _ _ _ _ _ _ _ k.before.before.loop.invariant _ c.refused-from.ensures
 
 enum-known-len : tie.Need-enum-known-len invariant-loop decreases-loop
 enum-known-len c = search rules
@@ -54,7 +54,7 @@ add-bytes c =
     let n = c.before in
     let l = n.before.before.before.before in
     let o = read n in
-    omega (arith, l.loop.invariant.short, strict-room _ _ _ _ _ _ _ l.loop.invariant _ _ n.before.before.before.loop-test.true o, o.whole.stands.inside, o.whole.next-is)
+    omega (arith, l.loop.invariant.short, strict_room _ _ _ _ _ _ _ l.loop.invariant _ _ n.before.before.before.loop-test.true o, o.whole.stands.inside, o.whole.next-is)
 
 chunk-count-requires : tie.Need-chunk-count-requires invariant-loop decreases-loop
 chunk-count-requires c κs = search rules
@@ -64,22 +64,22 @@ add-chunks c =
     let n = c.before.before in
     let l = n.before.before.before.before in
     let o = read n in
-    omega (arith, l.loop.invariant.chunked, c.chunk_count.ensures, few_chunks l.before.before.args.other n.len.given.0.0, strict-room _ _ _ _ _ _ _ l.loop.invariant _ _ n.before.before.before.loop-test.true o, o.whole.stands.inside, o.whole.next-is)
+    omega (arith, l.loop.invariant.chunked, c.chunk_count.ensures, few_chunks l.before.before.args.other n.len.given.0.0, strict_room _ _ _ _ _ _ _ l.loop.invariant _ _ n.before.before.before.loop-test.true o, o.whole.stands.inside, o.whole.next-is)
 
 loop-less : tie.Need-loop-smaller invariant-loop decreases-loop
 loop-less c =
     let n = c.before.before in
     let l = n.before.before.before.before in
-    omega (arith, n.before.before.before.loop-test.true, strict-room _ _ _ _ _ _ _ l.loop.invariant _ _ n.before.before.before.loop-test.true (read n))
+    omega (arith, n.before.before.before.loop-test.true, strict_room _ _ _ _ _ _ _ l.loop.invariant _ _ n.before.before.before.loop-test.true (read n))
 
 loop-again : tie.Need-loop-preserved invariant-loop decreases-loop
 loop-again c =
     let n = c.before.before in
     let l = n.before.before.before.before in
-    strict-turn _ _ _ _ _ _ _ l.loop.invariant _ _ n.before.before.before.loop-test.true (read n) _ c.chunk_count.ensures
+    strict_turn _ _ _ _ _ _ _ l.loop.invariant _ _ n.before.before.before.loop-test.true (read n) _ c.chunk_count.ensures
 
 returns-2 : tie.Need-returns-2 invariant-loop decreases-loop
-returns-2 c = strict-ends _ _ _ _ _ _ _ c.before.loop.invariant c.loop-test.false
+returns-2 c = strict_ends _ _ _ _ _ _ _ c.before.loop.invariant c.loop-test.false
 
 pub judge_strictly_spec : {M : Type 1} → statement M
 judge_strictly_spec =

@@ -7,7 +7,7 @@ use lib.ListN.{length, length-set}
 use Rattle.stream.specs.Messages.{thawed}
 use Rattle.stream.specs.Answers.{step_read}
 use Rattle.thawing.specs.Thawing.{messages_in}
-use Rattle.thawing.proofs.Listing.{ListWalk, list-start, list-ends, list-places, list-next, list-some}
+use Rattle.thawing.proofs.Listing.{ListWalk, list_start, list_ends, list_places, list_next, list-some}
 use Rattle.thawing.proofs.list_messages.Statement.{statement}
 use Rattle.thawing.proofs.list_messages.Tie as tie
 
@@ -18,7 +18,7 @@ abbrev decreases-loop : tie.decreases-loop
 decreases-loop form stream list₀ out₀ at₀ place₀ to₀ list out at place to = length stream - at
 
 loop-holds : tie.Need-loop-init invariant-loop decreases-loop
-loop-holds c = rw c.before.before.before.requires.are (list-start _ _ _ _ c.before.before.before.requires)
+loop-holds c = rw c.before.before.before.requires.are (list_start _ _ _ _ c.before.before.before.requires)
 
 next-message-requires : tie.Need-next-message-requires invariant-loop decreases-loop
 next-message-requires c κs = search rules
@@ -48,40 +48,40 @@ add-list : tie.Need-overflow-add-list invariant-loop decreases-loop
 add-list c = omega (arith, c.before.before.before.before.before.before.before.loop-test.true)
 
 mul-list : tie.Need-overflow-mul-list invariant-loop decreases-loop
-mul-list c = let n = c.before in omega (arith, list-places _ _ _ _ _ _ _ _ _ _ n.before.before.before.before.before.before.before.loop.invariant n.before.before.before.before.before.before.loop-test.true)
+mul-list c = let n = c.before in omega (arith, list_places _ _ _ _ _ _ _ _ _ _ n.before.before.before.before.before.before.before.loop.invariant n.before.before.before.before.before.before.loop-test.true)
 
 slice-write-list : tie.Need-slice-write-list invariant-loop decreases-loop
-slice-write-list c = let n = c.before in omega (arith, list-places _ _ _ _ _ _ _ _ _ _ n.before.before.before.before.before.before.before.loop.invariant n.before.before.before.before.before.before.loop-test.true)
+slice-write-list c = let n = c.before in omega (arith, list_places _ _ _ _ _ _ _ _ _ _ n.before.before.before.before.before.before.before.loop.invariant n.before.before.before.before.before.before.loop-test.true)
 
 add-list-2 : tie.Need-overflow-add-list-2 invariant-loop decreases-loop
-add-list-2 c = let n = c.before in omega (arith, list-places _ _ _ _ _ _ _ _ _ _ n.before.before.before.before.before.before.before.loop.invariant n.before.before.before.before.before.before.loop-test.true)
+add-list-2 c = let n = c.before in omega (arith, list_places _ _ _ _ _ _ _ _ _ _ n.before.before.before.before.before.before.before.loop.invariant n.before.before.before.before.before.before.loop-test.true)
 
 mul-list-2 : tie.Need-overflow-mul-list-2 invariant-loop decreases-loop
-mul-list-2 c = let n = c.before in omega (arith, list-places _ _ _ _ _ _ _ _ _ _ n.before.before.before.before.before.before.before.loop.invariant n.before.before.before.before.before.before.loop-test.true)
+mul-list-2 c = let n = c.before in omega (arith, list_places _ _ _ _ _ _ _ _ _ _ n.before.before.before.before.before.before.before.loop.invariant n.before.before.before.before.before.before.loop-test.true)
 
 slice-write-list-2 : tie.Need-slice-write-list-2 invariant-loop decreases-loop
-slice-write-list-2 c = let n = c.before in rw length-set (omega (arith, list-places _ _ _ _ _ _ _ _ _ _ n.before.before.before.before.before.before.before.loop.invariant n.before.before.before.before.before.before.loop-test.true))
+slice-write-list-2 c = let n = c.before in rw length-set (omega (arith, list_places _ _ _ _ _ _ _ _ _ _ n.before.before.before.before.before.before.before.loop.invariant n.before.before.before.before.before.before.loop-test.true))
 
 add-list-3 : tie.Need-overflow-add-list-3 invariant-loop decreases-loop
-add-list-3 c = let n = c.before in omega (arith, list-places _ _ _ _ _ _ _ _ _ _ n.before.before.before.before.before.before.before.loop.invariant n.before.before.before.before.before.before.loop-test.true)
+add-list-3 c = let n = c.before in omega (arith, list_places _ _ _ _ _ _ _ _ _ _ n.before.before.before.before.before.before.before.loop.invariant n.before.before.before.before.before.before.loop-test.true)
 
 mul-list-3 : tie.Need-overflow-mul-list-3 invariant-loop decreases-loop
-mul-list-3 c = let n = c.before in omega (arith, list-places _ _ _ _ _ _ _ _ _ _ n.before.before.before.before.before.before.before.loop.invariant n.before.before.before.before.before.before.loop-test.true)
+mul-list-3 c = let n = c.before in omega (arith, list_places _ _ _ _ _ _ _ _ _ _ n.before.before.before.before.before.before.before.loop.invariant n.before.before.before.before.before.before.loop-test.true)
 
 slice-write-list-3 : tie.Need-slice-write-list-3 invariant-loop decreases-loop
-slice-write-list-3 c = let n = c.before in simp length-set (omega (arith, list-places _ _ _ _ _ _ _ _ _ _ n.before.before.before.before.before.before.before.loop.invariant n.before.before.before.before.before.before.loop-test.true))
+slice-write-list-3 c = let n = c.before in simp length-set (omega (arith, list_places _ _ _ _ _ _ _ _ _ _ n.before.before.before.before.before.before.before.loop.invariant n.before.before.before.before.before.before.loop-test.true))
 
 add-place : tie.Need-overflow-add-place invariant-loop decreases-loop
-add-place c = let n = c.before in omega (arith, list-places _ _ _ _ _ _ _ _ _ _ n.before.before.before.before.before.before.before.loop.invariant n.before.before.before.before.before.before.loop-test.true)
+add-place c = let n = c.before in omega (arith, list_places _ _ _ _ _ _ _ _ _ _ n.before.before.before.before.before.before.before.loop.invariant n.before.before.before.before.before.before.loop-test.true)
 
 add-to : tie.Need-overflow-add-to invariant-loop decreases-loop
-add-to c = let n = c.before in omega (arith, (list-next _ _ _ _ _ _ _ _ _ _ n.before.before.before.before.before.before.before.loop.invariant n.before.before.before.before.before.before.loop-test.true _ _ _ _ n.len.given.1 n.before.before.before.before.next-message.ensures).short)
+add-to c = let n = c.before in omega (arith, (list_next _ _ _ _ _ _ _ _ _ _ n.before.before.before.before.before.before.before.loop.invariant n.before.before.before.before.before.before.loop-test.true _ _ _ _ n.len.given.1 n.before.before.before.before.next-message.ensures).short)
 
 loop-less : tie.Need-loop-smaller invariant-loop decreases-loop
-loop-less c = let n = c.before in omega (arith, c.before.before.before.before.before.before.before.loop-test.true, (list-next _ _ _ _ _ _ _ _ _ _ n.before.before.before.before.before.before.before.loop.invariant n.before.before.before.before.before.before.loop-test.true _ _ _ _ n.len.given.1 n.before.before.before.before.next-message.ensures).onwards)
+loop-less c = let n = c.before in omega (arith, c.before.before.before.before.before.before.before.loop-test.true, (list_next _ _ _ _ _ _ _ _ _ _ n.before.before.before.before.before.before.before.loop.invariant n.before.before.before.before.before.before.loop-test.true _ _ _ _ n.len.given.1 n.before.before.before.before.next-message.ensures).onwards)
 
 loop-again : tie.Need-loop-preserved invariant-loop decreases-loop
-loop-again c = let n = c.before in (list-next _ _ _ _ _ _ _ _ _ _ n.before.before.before.before.before.before.before.loop.invariant n.before.before.before.before.before.before.loop-test.true _ _ _ _ n.len.given.1 n.before.before.before.before.next-message.ensures).walk
+loop-again c = let n = c.before in (list_next _ _ _ _ _ _ _ _ _ _ n.before.before.before.before.before.before.before.loop.invariant n.before.before.before.before.before.before.loop-test.true _ _ _ _ n.len.given.1 n.before.before.before.before.next-message.ensures).walk
 
 same-length-3 : tie.Need-same-length-3 invariant-loop decreases-loop
 same-length-3 c = c.before.loop.invariant.listed.kept
@@ -92,7 +92,7 @@ same-length-4 c = c.before.loop.invariant.copied.kept
 returns-2 : tie.Need-returns-2 invariant-loop decreases-loop
 returns-2 c =
     let g = c.before.before.before.before.before.requires in
-    list-ends _ _ _ _ _ _ _ _ _ _ c.before.loop.invariant c.loop-test.false (rw g.are g.places_for) (rw g.are g.room_for)
+    list_ends _ _ _ _ _ _ _ _ _ _ c.before.loop.invariant c.loop-test.false (rw g.are g.places_for) (rw g.are g.room_for)
 
 pub list_messages_spec : {M : Type 1} → statement M
 list_messages_spec =

@@ -3,8 +3,8 @@ use mathlib.Core.Path.{refl, sym, ap, ◌∙◌}
 use native.Mathlib.Omega.{arith}
 use Rattle.refusal.specs.Answer.{given}
 use Rattle.stream.specs.Answers.{step_read}
-use Rattle.stream.proofs.Walk.{Whole, whole_of, bad-of}
-use Rattle.thawing.proofs.Message.{next-refused, whole_length, whole-inside, next-no-room, next-copied}
+use Rattle.stream.proofs.Walk.{Whole, whole_of, bad_of}
+use Rattle.thawing.proofs.Message.{next_refused, whole_length, whole_inside, next_no_room, next_copied}
 use borrow.Author.Rules.{rules}
 use Rattle.thawing.proofs.next_message.Statement.{statement}
 use Rattle.thawing.proofs.next_message.Tie as tie
@@ -25,22 +25,22 @@ enum-known-len c = search rules
 returns : tie.Need-returns
 returns c =
     let o = whole c.before.before in
-    next-no-room _ _ _ _ _ o _ _ (omega (arith, o.stands.sized.least, o.length_is))
+    next_no_room _ _ _ _ _ o _ _ (omega (arith, o.stands.sized.least, o.length_is))
 
 sub-if2 : tie.Need-overflow-sub-if2
 sub-if2 c = search rules
 
 returns-2 : tie.Need-returns-2
-returns-2 c = next-no-room _ _ _ _ _ (whole c.before.before.before) _ _ (omega arith)
+returns-2 c = next_no_room _ _ _ _ _ (whole c.before.before.before) _ _ (omega arith)
 
 add-copy-chunks : tie.Need-overflow-add-copy-chunks
-add-copy-chunks c = omega (arith, whole-inside _ _ _ _ _ (whole c.before.before.before))
+add-copy-chunks c = omega (arith, whole_inside _ _ _ _ _ (whole c.before.before.before))
 
 copy-chunks-requires : tie.Need-copy-chunks-requires
 copy-chunks-requires c κs = whole_length _ _ _ _ _ (whole c.before.before.before.before)
 
 returns-3 : tie.Need-returns-3
-returns-3 c = next-refused _ _ _ _ _ _ _ (bad-of _ _ _ _ (sym (ap step_read c.before.e.given.1) ∙ c.before.before.before.message-at.ensures)) refl
+returns-3 c = next_refused _ _ _ _ _ _ _ (bad_of _ _ _ _ (sym (ap step_read c.before.e.given.1) ∙ c.before.before.before.message-at.ensures)) refl
 
 same_length : tie.Need-same-length
 same_length c = search rules
@@ -49,7 +49,7 @@ returns-4 : tie.Need-returns-4
 returns-4 c =
     let p = c.before.before in
     let n = p.before.before.before.before.before in
-    next-copied _ _ _ _ _ (whole n) _ _ _ _ (omega arith) p.copy-chunks.ensures
+    next_copied _ _ _ _ _ (whole n) _ _ _ _ (omega arith) p.copy-chunks.ensures
 
 pub next_message_spec : {M : Type 1} → statement M
 next_message_spec =

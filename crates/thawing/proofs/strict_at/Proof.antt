@@ -8,10 +8,10 @@ use Rattle.ground.specs.Part.{part}
 use Rattle.stream.specs.declared.Form.{Form}
 use Rattle.stream.specs.Stream.{full, head_size}
 use Rattle.stream.specs.Answers.{step_read}
-use Rattle.stream.proofs.Walk.{Whole, whole_of, bad-of}
+use Rattle.stream.proofs.Walk.{Whole, whole_of, bad_of}
 use Rattle.thawing.specs.Message.{strict_before}
-use Rattle.thawing.proofs.Message.{whole_length, whole-inside}
-use Rattle.thawing.proofs.Accepting.{strict-bad, strict-is, one_piece, one_inside}
+use Rattle.thawing.proofs.Message.{whole_length, whole_inside}
+use Rattle.thawing.proofs.Accepting.{strict_bad, strict_is, one_piece, one_inside}
 use borrow.Author.Rules.{rules}
 use Rattle.thawing.proofs.strict_at.Statement.{statement}
 use Rattle.thawing.proofs.strict_at.Tie as tie
@@ -45,7 +45,7 @@ chunk-length-requires : tie.Need-chunk-length-requires
 chunk-length-requires c κs = search rules
 
 add-strict-apart : tie.Need-overflow-add-strict-apart
-add-strict-apart c = omega (arith, whole-inside _ _ _ _ _ (whole c.before.before.before))
+add-strict-apart c = omega (arith, whole_inside _ _ _ _ _ (whole c.before.before.before))
 
 strict-apart-requires : tie.Need-strict-apart-requires
 strict-apart-requires c κs =
@@ -53,7 +53,7 @@ strict-apart-requires c κs =
     (whole_length _ _ _ _ _ o, omega (arith, o.length_is, o.stands.sized.most))
 
 returns : tie.Need-returns
-returns c = strict-is _ _ _ _ _ (whole c.before.before.before.before) _ c.Strict-apart.ensures
+returns c = strict_is _ _ _ _ _ (whole c.before.before.before.before) _ c.Strict-apart.ensures
 
 add_start : tie.Need-overflow-add-start
 add_start c = omega (arith, inside c)
@@ -80,13 +80,13 @@ strict-before-requires : tie.Need-strict-before-requires
 strict-before-requires c κs = search rules
 
 returns-2 : tie.Need-returns-2
-returns-2 c = sym (strict-bad _ _ _ _ (bad-of _ _ _ _ (sym (ap step_read c.before.e.given.1) ∙ c.before.before.before.message-at.ensures)))
+returns-2 c = sym (strict_bad _ _ _ _ (bad_of _ _ _ _ (sym (ap step_read c.before.e.given.1) ∙ c.before.before.before.message-at.ensures)))
 
 returns-3 : tie.Need-returns-3
 returns-3 c =
     let h = c.before.before in
     let o = whole h.before.before.before.before in
-    strict-is _ _ _ _ _ o _ (c.strict-before.ensures ∙ ap (λ (d : List ℕ). strict_before d h.before.before.before.before.len.given.0.1.0) (piece h.before.before.before.before.before.before.before.before.args.form _ _ _ _ h.head_of.ensures ∙ one_piece _ _ _ _ _ o (single h.before)))
+    strict_is _ _ _ _ _ o _ (c.strict-before.ensures ∙ ap (λ (d : List ℕ). strict_before d h.before.before.before.before.len.given.0.1.0) (piece h.before.before.before.before.before.before.before.before.args.form _ _ _ _ h.head_of.ensures ∙ one_piece _ _ _ _ _ o (single h.before)))
 
 pub strict_at_spec : {M : Type 1} → statement M
 strict_at_spec =

@@ -2,7 +2,7 @@
 use mathlib.Core.Path.{refl, sym, ap, ◌∙◌}
 use native.Mathlib.Omega.{arith}
 use Rattle.thawing.specs.Thawing.{strictly_in}
-use Rattle.thawing.proofs.Thawed.{Counted, counted, uncounted, thaw-refused, thaw-no-places, thaw-no-room, listing, thaw-done}
+use Rattle.thawing.proofs.Thawed.{Counted, counted, uncounted, thaw_refused, thaw_no_places, thaw_no_room, listing, thaw_done}
 use borrow.Author.Rules.{rules}
 use Rattle.thawing.proofs.thaw.Statement.{statement}
 use Rattle.thawing.proofs.thaw.Tie as tie
@@ -21,16 +21,16 @@ enum-known-count : tie.Need-enum-known-count
 enum-known-count c = search rules
 
 returns : tie.Need-returns
-returns c = thaw-no-places _ _ _ _ _ _ _ (found c.before.before) (omega (arith, c.if1.true))
+returns c = thaw_no_places _ _ _ _ _ _ _ (found c.before.before) (omega (arith, c.if1.true))
 
 returns-2 : tie.Need-returns-2
-returns-2 c = thaw-no-room _ _ _ _ _ _ _ (found c.before.before.before) (omega (arith, c.before.if1.false)) c.if2.true
+returns-2 c = thaw_no_room _ _ _ _ _ _ _ (found c.before.before.before) (omega (arith, c.before.if1.false)) c.if2.true
 
 list-messages-requires : tie.Need-list-messages-requires
 list-messages-requires c κs = listing _ _ _ _ _ _ _ (found c.before.before.before.before.before) (omega arith) (omega arith)
 
 returns-3 : tie.Need-returns-3
-returns-3 c = thaw-refused _ _ _ _ _ _ (uncounted _ _ _ _ (sym (ap strictly_in c.before.e.given.1) ∙ c.before.before.before.judge-strictly.ensures)) refl
+returns-3 c = thaw_refused _ _ _ _ _ _ (uncounted _ _ _ _ (sym (ap strictly_in c.before.e.given.1) ∙ c.before.before.before.judge-strictly.ensures)) refl
 
 same_length : tie.Need-same-length
 same_length c = search rules
@@ -41,7 +41,7 @@ same-length-2 c = search rules
 returns-4 : tie.Need-returns-4
 returns-4 c =
     let p = c.before.before.before.before in
-    thaw-done _ _ _ _ _ _ _ (found p.before.before.before.before.before.before) _ _ (omega arith) (omega arith) p.list-messages.ensures.0 p.list-messages.ensures.1
+    thaw_done _ _ _ _ _ _ _ (found p.before.before.before.before.before.before) _ _ (omega arith) (omega arith) p.list-messages.ensures.0 p.list-messages.ensures.1
 
 pub thaw_spec : {M : Type 1} → statement M
 thaw_spec =

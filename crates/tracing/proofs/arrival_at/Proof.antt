@@ -1,5 +1,5 @@
 -- `arrival_at`: the message that was measured, and what stands in it.
-use Rattle.tracing.proofs.Arrivals.{peer-there, header-there, none-arrives, arrives}
+use Rattle.tracing.proofs.Arrivals.{peer_there, header_there, none_arrives, arrives}
 use Rattle.tracing.proofs.Judging.{Measured, measured, unmeasured}
 use Rattle.tracing.specs.Answers.{timed_read}
 use native.Mathlib.Omega.{arith}
@@ -22,28 +22,28 @@ enum-known-time : tie.Need-enum-known-time
 enum-known-time c = search rules
 
 add-header-at : tie.Need-overflow-add-header-at
-add-header-at c = let o = found c.before in omega (arith, header-there _ _ _ o.stands.found o.stands.message)
+add-header-at c = let o = found c.before in omega (arith, header_there _ _ _ o.stands.found o.stands.message)
 
 head-of-requires : tie.Need-head-of-requires
 head-of-requires c κs = search rules
 
 add-header-at-2 : tie.Need-overflow-add-header-at-2
-add-header-at-2 c = let o = found c.before.before in omega (arith, header-there _ _ _ o.stands.found o.stands.message, c.head_of.ensures)
+add-header-at-2 c = let o = found c.before.before in omega (arith, header_there _ _ _ o.stands.found o.stands.message, c.head_of.ensures)
 
 header-at-requires : tie.Need-header-at-requires
-header-at-requires c κs = let o = found c.before.before in omega (arith, header-there _ _ _ o.stands.found o.stands.message, c.head_of.ensures)
+header-at-requires c κs = let o = found c.before.before in omega (arith, header_there _ _ _ o.stands.found o.stands.message, c.head_of.ensures)
 
 from-number-requires : tie.Need-from-number-requires
 from-number-requires c κs = search rules
 
 add-peer-at : tie.Need-overflow-add-peer-at
-add-peer-at c = let o = found c.before.before.before.before.before in omega (arith, peer-there _ _ _ o.stands.found o.stands.message)
+add-peer-at c = let o = found c.before.before.before.before.before in omega (arith, peer_there _ _ _ o.stands.found o.stands.message)
 
 peer-at-requires : tie.Need-peer-at-requires
-peer-at-requires c κs = let o = found c.before.before.before.before.before in omega (arith, peer-there _ _ _ o.stands.found o.stands.message)
+peer-at-requires c κs = let o = found c.before.before.before.before.before in omega (arith, peer_there _ _ _ o.stands.found o.stands.message)
 
 returns : tie.Need-returns
-returns c = none-arrives _ _ _ _ (unmeasured _ _ _ _ (sym (ap timed_read c.before.e.given.1) ∙ c.before.before.before.timed-at.ensures))
+returns c = none_arrives _ _ _ _ (unmeasured _ _ _ _ (sym (ap timed_read c.before.e.given.1) ∙ c.before.before.before.timed-at.ensures))
 
 returns-2 : tie.Need-returns-2
 returns-2 c =

@@ -1,5 +1,5 @@
 -- `judge`: the walk over the messages keeps the whole answer.
-use Rattle.tracing.proofs.Judging.{strict_from, JudgeWalk, judge-start, judge-ends, judge-stops, judge-turn, Taken, taken}
+use Rattle.tracing.proofs.Judging.{strict_from, JudgeWalk, judge_start, judge_ends, judge_stops, judge_turn, Taken, taken}
 use Rattle.tracing.specs.Judging.{count_of}
 use Rattle.tracing.specs.TimedMessages.{form_of}
 use Rattle.stream.specs.Answers.{step_read}
@@ -31,7 +31,7 @@ form-of-requires : tie.Need-form-of-requires invariant-loop decreases-loop
 form-of-requires c κs = search rules
 
 loop-holds : tie.Need-loop-init invariant-loop decreases-loop
-loop-holds c = judge-start _ _
+loop-holds c = judge_start _ _
 
 strict-timed-at-requires : tie.Need-strict-timed-at-requires invariant-loop decreases-loop
 strict-timed-at-requires c κs = search rules
@@ -47,7 +47,7 @@ refused-from-requires c κs =
 returns : tie.Need-returns invariant-loop decreases-loop
 returns c =
     let l = c.before.before.before.before.before.before in
-    judge-stops _ _ _ _ l.loop.invariant _ c.refused-from.ensures ∙ in_its_form _ _ l.before.form-of.ensures
+    judge_stops _ _ _ _ l.loop.invariant _ c.refused-from.ensures ∙ in_its_form _ _ l.before.form-of.ensures
 
 enum-known-next : tie.Need-enum-known-next invariant-loop decreases-loop
 enum-known-next c = search rules
@@ -59,10 +59,10 @@ loop-less : tie.Need-loop-smaller invariant-loop decreases-loop
 loop-less c = let n = c.before in omega (arith, n.before.before.before.loop-test.true, (read n).onward)
 
 loop-again : tie.Need-loop-preserved invariant-loop decreases-loop
-loop-again c = let n = c.before in judge-turn _ _ _ _ n.before.before.before.before.loop.invariant _ _ n.before.before.before.loop-test.true (read n)
+loop-again c = let n = c.before in judge_turn _ _ _ _ n.before.before.before.before.loop.invariant _ _ n.before.before.before.loop-test.true (read n)
 
 returns-2 : tie.Need-returns-2 invariant-loop decreases-loop
-returns-2 c = judge-ends _ _ _ _ c.before.loop.invariant c.loop-test.false ∙ in_its_form _ _ c.before.before.form-of.ensures
+returns-2 c = judge_ends _ _ _ _ c.before.loop.invariant c.loop-test.false ∙ in_its_form _ _ c.before.before.form-of.ensures
 
 pub judge_spec : {M : Type 1} → statement M
 judge_spec =

@@ -1,5 +1,5 @@
 -- `judge_from`: the walk over the messages keeps whether there is a value.
-use Rattle.tracing.proofs.Judging.{RestWalk, rest-start, rest-ends, rest-refused, rest-turn, Measured, measured}
+use Rattle.tracing.proofs.Judging.{RestWalk, rest_start, rest_ends, rest_refused, rest_turn, Measured, measured}
 use Rattle.tracing.specs.TimedMessages.{TimedFound}
 use Rattle.tracing.specs.Answers.{timed_read}
 use borrow.Author.Rules.{rules}
@@ -21,7 +21,7 @@ found : (c : tie.After-next invariant-loop decreases-loop) → Measured c.before
 found c = measured _ _ _ _ _ _ (sym (ap timed_read c.next.given.1) ∙ c.before.before.timed-at.ensures)
 
 loop-holds : tie.Need-loop-init invariant-loop decreases-loop
-loop-holds c = rest-start _ _ _
+loop-holds c = rest_start _ _ _
 
 timed-at-requires : tie.Need-timed-at-requires invariant-loop decreases-loop
 timed-at-requires c κs = search rules
@@ -32,7 +32,7 @@ enum-known-e c = search rules
 returns : tie.Need-returns invariant-loop decreases-loop
 returns c =
     let k = c.before.before.before in
-    rest-refused _ _ _ _ k.before.before.loop.invariant _ k.before.loop-test.true (sym (ap timed_read c.before.e.given.1) ∙ k.timed-at.ensures)
+    rest_refused _ _ _ _ k.before.before.loop.invariant _ k.before.loop-test.true (sym (ap timed_read c.before.e.given.1) ∙ k.timed-at.ensures)
 
 enum-known-next : tie.Need-enum-known-next invariant-loop decreases-loop
 enum-known-next c = search rules
@@ -41,10 +41,10 @@ loop-less : tie.Need-loop-smaller invariant-loop decreases-loop
 loop-less c = let o = found c.before in omega (arith, c.before.before.before.before.loop-test.true, o.stands.message.room, ap (λ (x : TimedFound). x.next) o.stands.value, o.next-is)
 
 loop-again : tie.Need-loop-preserved invariant-loop decreases-loop
-loop-again c = let n = c.before in rest-turn _ _ _ _ n.before.before.before.before.loop.invariant _ _ _ n.before.before.before.loop-test.true (found n)
+loop-again c = let n = c.before in rest_turn _ _ _ _ n.before.before.before.before.loop.invariant _ _ _ n.before.before.before.loop-test.true (found n)
 
 returns-2 : tie.Need-returns-2 invariant-loop decreases-loop
-returns-2 c = rest-ends _ _ _ _ c.before.loop.invariant c.loop-test.false
+returns-2 c = rest_ends _ _ _ _ c.before.loop.invariant c.loop-test.false
 
 pub judge_from_spec : {M : Type 1} → statement M
 judge_from_spec =

@@ -1,5 +1,5 @@
 -- `refused_from`: the rest of the trace decides before the datagram.
-use Rattle.tracing.proofs.Judging.{refused-trace, refused-datagram}
+use Rattle.tracing.proofs.Judging.{refused_trace, refused_datagram}
 use Rattle.refusal.specs.Answer.{outcome}
 use mathlib.Core.Path.{sym, ap, ◌∙◌}
 use borrow.Author.Rules.{rules}
@@ -16,13 +16,13 @@ enum_told : tie.Need-enum-told
 enum_told c = search rules
 
 returns : tie.Need-returns
-returns c = refused-trace _ _ _ _ (sym (ap outcome c.before.e.given.1) ∙ c.before.before.before.judge-from.ensures)
+returns c = refused_trace _ _ _ _ (sym (ap outcome c.before.e.given.1) ∙ c.before.before.before.judge-from.ensures)
 
 returns-2 : tie.Need-returns-2
 returns-2 c =
     let k = c.before.before in
     let s = k.before.before in
-    refused-datagram _ _ _ _ s.requires.0 s.requires.1 (sym (ap outcome c.enum_told.given.1) ∙ k.judge-from.ensures)
+    refused_datagram _ _ _ _ s.requires.0 s.requires.1 (sym (ap outcome c.enum_told.given.1) ∙ k.judge-from.ensures)
 
 pub refused_from_spec : {M : Type 1} → statement M
 refused_from_spec =

@@ -1,10 +1,10 @@
 -- `timed_at`: the time, then the message.
 use mathlib.Core.Path.{◌≡◌, sym, ap, ◌∙◌}
 use Rattle.tracing.proofs.Judging.{measures}
-use Rattle.tracing.proofs.Found.{time-there, no_time, timed-refused}
+use Rattle.tracing.proofs.Found.{time_there, no_time, timed_refused}
 use Rattle.tracing.specs.Answers.{timed_extent}
 use Rattle.tracing.specs.TimedMessages.{is_time}
-use Rattle.stream.proofs.Walk.{whole_of, bad-of}
+use Rattle.stream.proofs.Walk.{whole_of, bad_of}
 use Rattle.stream.specs.Answers.{step_read}
 use mathlib.Core.Bool.{true}
 use native.Mathlib.Omega.{arith}
@@ -24,7 +24,7 @@ returns : tie.Need-returns
 returns c = sym (ap timed_extent (no_time _ _ _ (sym c.before.is-time.ensures ∙ not-true _ c.if1.true)))
 
 add-message-at : tie.Need-overflow-add-message-at
-add-message-at c = omega (arith, (time-there _ _ (timed c)).1)
+add-message-at c = omega (arith, (time_there _ _ (timed c)).1)
 
 message-at-requires : tie.Need-message-at-requires
 message-at-requires c κs = search rules
@@ -36,13 +36,13 @@ enum-known-len : tie.Need-enum-known-len
 enum-known-len c = search rules
 
 add-four-at : tie.Need-overflow-add-four-at
-add-four-at c = omega (arith, (time-there _ _ (timed c.before.before.before.before)).1)
+add-four-at c = omega (arith, (time_there _ _ (timed c.before.before.before.before)).1)
 
 four-at-requires : tie.Need-four-at-requires
-four-at-requires c κs = omega (arith, (time-there _ _ (timed c.before.before.before.before)).1)
+four-at-requires c κs = omega (arith, (time_there _ _ (timed c.before.before.before.before)).1)
 
 returns-2 : tie.Need-returns-2
-returns-2 c = sym (ap timed_extent (timed-refused _ _ _ (timed c.before.before.before.before) _ (bad-of _ _ _ _ (sym (ap step_read c.before.e.given.1) ∙ c.before.before.before.message-at.ensures))))
+returns-2 c = sym (ap timed_extent (timed_refused _ _ _ (timed c.before.before.before.before) _ (bad_of _ _ _ _ (sym (ap step_read c.before.e.given.1) ∙ c.before.before.before.message-at.ensures))))
 
 returns-3 : tie.Need-returns-3
 returns-3 c =

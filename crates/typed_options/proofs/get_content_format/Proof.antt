@@ -4,7 +4,7 @@ use Rattle.option_value.specs.Uint.{read_uint, read_u16}
 use Rattle.packet.specs.Packet.{stores, records_of, of_number, value_of}
 use Rattle.typed_options.specs.Getters.{format_of, format_in}
 use Rattle.typed_options.specs.declared.ContentFormat.TheVariants.{None}
-use Rattle.typed_options.proofs.Getters.{on-absent, on-present}
+use Rattle.typed_options.proofs.Getters.{on_absent, on_present}
 use borrow.Author.Rules.{rules}
 use Rattle.typed_options.proofs.get_content_format.Statement.{statement}
 use Rattle.typed_options.proofs.get_content_format.Tie as tie
@@ -15,7 +15,7 @@ unfolding format_in
 answer c =
     let a = c.before.before.before.before.before.before.args in
     ap format_of (c.try-from.ensures ∙ ap (read_uint 2) c.before.get-first-option.ensures.0)
-    ∙ on-present (None 0) (λ r. format_of (read_uint 2 (value_of (stores a.datagram.now a.edits.now) r))) _ (of_number 12 (records_of a.packet))
+    ∙ on_present (None 0) (λ r. format_of (read_uint 2 (value_of (stores a.datagram.now a.edits.now) r))) _ (of_number 12 (records_of a.packet))
     c.before.before.before.has-option.ensures c.before.before.if1.false
 
 has-option-requires : tie.Need-has-option-requires
@@ -25,7 +25,7 @@ returns : tie.Need-returns
 unfolding format_in
 returns c =
     let a = c.before.before.before.before.args in
-    on-absent (None 0) (λ r. format_of (read_uint 2 (value_of (stores a.datagram.now a.edits.now) r))) _ (of_number 12 (records_of a.packet)) c.before.has-option.ensures c.if1.true
+    on_absent (None 0) (λ r. format_of (read_uint 2 (value_of (stores a.datagram.now a.edits.now) r))) _ (of_number 12 (records_of a.packet)) c.before.has-option.ensures c.if1.true
 
 get-first-option-requires : tie.Need-get-first-option-requires
 get-first-option-requires c κs = search rules

@@ -5,7 +5,7 @@ use Rattle.refusal.specs.Answer.{Answer, given, onward}
 use Rattle.option_value.specs.Uint.{Padded, read_uint, read_u32}
 use Rattle.packet.specs.Packet.{stores, records_of, of_number, value_of}
 use Rattle.typed_options.specs.Getters.{Found, number, absent, observe_in}
-use Rattle.typed_options.proofs.Getters.{on-absent, on-present}
+use Rattle.typed_options.proofs.Getters.{on_absent, on_present}
 use borrow.Author.Rules.{rules}
 use Rattle.typed_options.proofs.get_observe_value.Statement.{statement}
 use Rattle.typed_options.proofs.get_observe_value.Tie as tie
@@ -20,7 +20,7 @@ unfolding observe_in
 answer c =
     let a = c.before.before.before.before.before.before.args in
     ap found (c.try-from.ensures ∙ ap (read_uint 4) c.before.get-first-option.ensures.0)
-    ∙ on-present (given absent) (λ r. found (read_uint 4 (value_of (stores a.datagram.now a.edits.now) r))) _ (of_number 6 (records_of a.packet))
+    ∙ on_present (given absent) (λ r. found (read_uint 4 (value_of (stores a.datagram.now a.edits.now) r))) _ (of_number 6 (records_of a.packet))
     c.before.before.before.has-option.ensures c.before.before.if1.false
 
 has-option-requires : tie.Need-has-option-requires
@@ -30,7 +30,7 @@ returns : tie.Need-returns
 unfolding observe_in
 returns c =
     let a = c.before.before.before.before.args in
-    on-absent (given absent) (λ r. found (read_uint 4 (value_of (stores a.datagram.now a.edits.now) r))) _ (of_number 6 (records_of a.packet)) c.before.has-option.ensures c.if1.true
+    on_absent (given absent) (λ r. found (read_uint 4 (value_of (stores a.datagram.now a.edits.now) r))) _ (of_number 6 (records_of a.packet)) c.before.has-option.ensures c.if1.true
 
 get-first-option-requires : tie.Need-get-first-option-requires
 get-first-option-requires c κs = search rules

@@ -11,7 +11,7 @@ use Rattle.packet.specs.declared.Packet.{Packet}
 use Rattle.placing.proofs.Puts.{puts_whole}
 use Rattle.splicing.specs.Edited.{edited}
 use Rattle.splicing.specs.declared.Edited.{Edited}
-use Rattle.typed_options.proofs.Setters.{sets_known, too_long, edit-refused, no_room, room}
+use Rattle.typed_options.proofs.Setters.{sets_known, too_long, edit_refused, no_room, room}
 use borrow.Author.Rules.{rules}
 use Rattle.typed_options.proofs.put_value.Statement.{statement}
 use Rattle.typed_options.proofs.put_value.Tie as tie
@@ -44,7 +44,7 @@ returns-2 c =
     let old = a.edits.now in
     let h = c.enum-told2.given.1 in
     sets_known a.packet _ _ a.start (uint 8 a.value) old _ old
-    (edit-refused old a.start (uint 8 a.value) c.before.before.if1.false _ (answered (edited a.edit)) (ended a.edit _ h)) (told a.edit.outcome _ a.packet h) refl
+    (edit_refused old a.start (uint 8 a.value) c.before.before.if1.false _ (answered (edited a.edit)) (ended a.edit _ h)) (told a.edit.outcome _ a.packet h) refl
 
 uint-length-requires : tie.Need-uint-length-requires
 uint-length-requires c κs = search rules

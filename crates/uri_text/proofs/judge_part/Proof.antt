@@ -7,7 +7,7 @@ use lib.ListN.{length}
 use Rattle.percent.specs.Step.{kind_of}
 use Rattle.percent.proofs.Stepping.{took, ended, stopped}
 use Rattle.uri_text.specs.Judging.{LeftDue}
-use Rattle.uri_text.proofs.Judging.{Judging, judging_start, judging-bad, judging-never, judging-turn, judging_end}
+use Rattle.uri_text.proofs.Judging.{Judging, judging_start, judging_bad, judging_never, judging_turn, judging_end}
 use Rattle.uri_text.proofs.judge_part.Statement.{statement}
 use Rattle.uri_text.proofs.judge_part.Tie as tie
 
@@ -27,7 +27,7 @@ enum_told : tie.Need-enum-told invariant-loop decreases-loop
 enum_told c = search rules
 
 returns : tie.Need-returns invariant-loop decreases-loop
-returns c = judging-bad _ _ _ _ _ _ _ _ _ c.before.before.before.loop.invariant (stopped _ _ _ _ c.before.before.byte_at.ensures c.enum_told.given.1)
+returns c = judging_bad _ _ _ _ _ _ _ _ _ c.before.before.before.loop.invariant (stopped _ _ _ _ c.before.before.byte_at.ensures c.enum_told.given.1)
 
 enum-told-2 : tie.Need-enum-told-2 invariant-loop decreases-loop
 enum-told-2 c = search rules
@@ -48,7 +48,7 @@ enum-told-3 : tie.Need-enum-told-3 invariant-loop decreases-loop
 enum-told-3 c = search rules
 
 returns-3 : tie.Need-returns-3 invariant-loop decreases-loop
-returns-3 c = judging-never _ _ _ _ _ _ _ _ _ c.before.before.before.before.before.before.before.loop.invariant _ _ (took _ _ _ _ _ _ c.before.before.before.before.before.before.byte_at.ensures c.before.before.before.before.b.given.1) (subst (LeftDue _ _ _ _) c.enum-told3.given.1 c.before.before.next-due.ensures).is
+returns-3 c = judging_never _ _ _ _ _ _ _ _ _ c.before.before.before.before.before.before.before.loop.invariant _ _ (took _ _ _ _ _ _ c.before.before.before.before.before.before.byte_at.ensures c.before.before.before.before.b.given.1) (subst (LeftDue _ _ _ _) c.enum-told3.given.1 c.before.before.next-due.ensures).is
 
 enum-known-due : tie.Need-enum-known-due invariant-loop decreases-loop
 enum-known-due c = search rules
@@ -65,7 +65,7 @@ loop-less c = let t = took _ _ _ _ _ _ c.before.before.before.before.before.befo
 loop-again : tie.Need-loop-preserved invariant-loop decreases-loop
 loop-again c =
     rw c.only-dots.ensures
-    (judging-turn _ _ _ _ _ _ _ _ _ c.before.before.before.before.before.before.before.before.before.loop.invariant _ _ _ _ _ (took _ _ _ _ _ _ c.before.before.before.before.before.before.before.before.byte_at.ensures c.before.before.before.before.before.before.b.given.1)
+    (judging_turn _ _ _ _ _ _ _ _ _ c.before.before.before.before.before.before.before.before.before.loop.invariant _ _ _ _ _ (took _ _ _ _ _ _ c.before.before.before.before.before.before.before.before.byte_at.ensures c.before.before.before.before.before.before.b.given.1)
     (subst (LeftDue _ _ _ _) c.before.before.due.given.1 c.before.before.before.before.next-due.ensures).is)
 
 pub judge_part_spec : {M : Type 1} → statement M

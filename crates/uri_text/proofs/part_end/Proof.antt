@@ -3,7 +3,7 @@ use Prim.Native.Nat.{◌-◌}
 use mathlib.Core.Path.{refl}
 use native.Mathlib.Omega.{arith}
 use lib.ListN.{length}
-use Rattle.uri_text.proofs.Tallying.{Seeking, seek_found, seek-turn, seek-end}
+use Rattle.uri_text.proofs.Tallying.{Seeking, seek_found, seek_turn, seek_end}
 use Rattle.uri_text.proofs.part_end.Statement.{statement}
 use Rattle.uri_text.proofs.part_end.Tie as tie
 
@@ -29,10 +29,10 @@ loop-less : tie.Need-loop-smaller invariant-loop decreases-loop
 loop-less c = omega arith
 
 loop-again : tie.Need-loop-preserved invariant-loop decreases-loop
-loop-again c = seek-turn _ _ _ _ c.before.before.before.loop.invariant c.before.before.loop-test.true c.if1.false
+loop-again c = seek_turn _ _ _ _ c.before.before.before.loop.invariant c.before.before.loop-test.true c.if1.false
 
 returns-2 : tie.Need-returns-2 invariant-loop decreases-loop
-returns-2 c = seek-end _ _ _ _ c.before.loop.invariant c.loop-test.false
+returns-2 c = seek_end _ _ _ _ c.before.loop.invariant c.loop-test.false
 
 pub part_end_spec : {M : Type 1} → statement M
 part_end_spec =

@@ -5,7 +5,7 @@ use native.Mathlib.Omega.{arith}
 use lib.ListN.{length}
 use borrow.Author.Rules.{rules}
 use Rattle.utf8.specs.Row.{row_of}
-use Rattle.utf8.proofs.Utf8.{Judging, judging_start, judging_end, led, first_byte, no-first-byte, next-byte, byte-below, byte_above}
+use Rattle.utf8.proofs.Utf8.{Judging, judging_start, judging_end, led, first_byte, no_first_byte, next_byte, byte_below, byte_above}
 use Rattle.utf8.proofs.is_text.Statement.{statement}
 use Rattle.utf8.proofs.is_text.Tie as tie
 
@@ -43,11 +43,11 @@ enum_told c = search rules
 
 returns : tie.Need-returns invariant-loop decreases-loop
 returns c =
-    no-first-byte (omega arith) c.before.before.before.before.before.before.loop.invariant (omega arith)
+    no_first_byte (omega arith) c.before.before.before.before.before.before.loop.invariant (omega arith)
     (led _ c.before.before.lead-of.ensures ∙ ap row_of c.enum_told.given.1)
 
 returns-2 : tie.Need-returns-2 invariant-loop decreases-loop
-returns-2 c = byte-below (omega arith) c.before.before.before.before.loop.invariant (omega arith) (omega arith)
+returns-2 c = byte_below (omega arith) c.before.before.before.before.loop.invariant (omega arith) (omega arith)
 
 returns-3 : tie.Need-returns-3 invariant-loop decreases-loop
 returns-3 c = byte_above (omega arith) c.before.before.before.before.before.loop.invariant (omega arith) (omega arith) (omega arith)
@@ -62,7 +62,7 @@ loop-less-2 : tie.Need-loop-smaller-2 invariant-loop decreases-loop
 loop-less-2 c = omega arith
 
 loop-again-2 : tie.Need-loop-preserved-2 invariant-loop decreases-loop
-loop-again-2 c = next-byte (omega arith) c.before.before.before.before.before.loop.invariant (omega arith) (omega arith) (omega arith)
+loop-again-2 c = next_byte (omega arith) c.before.before.before.before.before.loop.invariant (omega arith) (omega arith) (omega arith)
 
 returns-4 : tie.Need-returns-4 invariant-loop decreases-loop
 returns-4 c = judging_end (omega arith) c.before.loop.invariant

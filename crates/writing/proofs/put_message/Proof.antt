@@ -18,8 +18,8 @@ use Rattle.packet.proofs.Records.{left, none_left}
 use Rattle.packet.proofs.Held.{full}
 use Rattle.laying.specs.Laying.{LaysHeader, LaysPayload}
 use Rattle.writing.specs.Writing.{sent, bytes_written}
-use Rattle.writing.proofs.Options.{leftover, Putting, option-given, turn, all}
-use Rattle.writing.proofs.Parts.{head-given, begin, last-given, whole}
+use Rattle.writing.proofs.Options.{leftover, Putting, option_given, turn, all}
+use Rattle.writing.proofs.Parts.{head_given, begin, last_given, whole}
 use Rattle.writing.proofs.put_message.Statement.{statement}
 use Rattle.writing.proofs.put_message.Tie as tie
 
@@ -43,18 +43,18 @@ message c = meaning (lent c) (sent c.args.strict c.args.packet)
 -- them, and all is put.
 module _ (c : tie.Start invariant-loop decreases-loop) (piece : Written) (headed : List ℕ) (h : LaysHeader c.args.packet.header (message c).token c.args.out.now piece headed) where
   head_at : (n : ℕ) × (written piece ≡ given n)
-  head_at = (_, h.answer ∙ head-given c.args.strict _ c.args.packet c.args.out.now c.requires.0 c.requires.1)
+  head_at = (_, h.answer ∙ head_given c.args.strict _ c.args.packet c.args.out.now c.requires.0 c.requires.1)
 
   module _ (first : ℕ) (f : written piece ≡ given first) where
-    begin-at : Putting (lent c) (records c) headed first headed 0 first 0
-    begin-at = begin c.args.strict _ c.args.packet _ c.requires.0 c.requires.1 _ _ _ h f
+    begin_at : Putting (lent c) (records c) headed first headed 0 first 0
+    begin_at = begin c.args.strict _ c.args.packet _ c.requires.0 c.requires.1 _ _ _ h f
 
     module _ (out : List ℕ) (next : ℕ) (o : Put headed first (leftover (lent c) (records c) 0 0) next out) (last : Written) (new : List ℕ) (l : LaysPayload (message c).payload next out last new) where
-      last-at : (n : ℕ) × (written last ≡ given n)
-      last-at = (_, l.answer ∙ last-given c.args.strict _ _ _ c.requires.0 c.requires.1 _ _ _ h f _ _ o)
+      last_at : (n : ℕ) × (written last ≡ given n)
+      last_at = (_, l.answer ∙ last_given c.args.strict _ _ _ c.requires.0 c.requires.1 _ _ _ h f _ _ o)
 
-      whole-at : (n : ℕ) → written last ≡ given n → Put c.args.out.now 0 (bytes_written c.args.strict (lent c) c.args.packet) (next + n) new
-      whole-at n e = whole c.args.strict _ _ _ c.requires.0 c.requires.1 _ _ _ h f _ _ o _ _ _ l e
+      whole_at : (n : ℕ) → written last ≡ given n → Put c.args.out.now 0 (bytes_written c.args.strict (lent c) c.args.packet) (next + n) new
+      whole_at n e = whole c.args.strict _ _ _ c.requires.0 c.requires.1 _ _ _ h f _ _ o _ _ _ l e
 
 -- The payload that was found is the message's.
 payload_is : (c : tie.After-part2 invariant-loop decreases-loop) → c.part2.result.now ≡ (message c.before.before.before.before.before.before.before.before).payload
@@ -75,19 +75,19 @@ module _ (c : tie.After-put-payload invariant-loop decreases-loop) where
   abbrev bare-first : ℕ
   bare-first = c.before.before.taken.result
 
-  bare-options : Put bare-laid.put-header.last.0 bare-first (leftover (lent (bare bare-laid)) (records (bare bare-laid)) 0 0) bare-first bare-laid.put-header.last.0
-  bare-options =
+  bare_options : Put bare-laid.put-header.last.0 bare-first (leftover (lent (bare bare-laid)) (records (bare bare-laid)) 0 0) bare-first bare-laid.put-header.last.0
+  bare_options =
       let p = (bare bare-laid).args.packet in
-      all _ _ _ _ _ _ _ _ (begin-at (bare bare-laid) _ _ (bare_head bare-laid) _ c.before.before.taken.ensures) (none_left (records_of p) 0 (omega (arith, length-take p.count p.options)))
+      all _ _ _ _ _ _ _ _ (begin_at (bare bare-laid) _ _ (bare_head bare-laid) _ c.before.before.taken.ensures) (none_left (records_of p) 0 (omega (arith, length-take p.count p.options)))
 
-  bare-payload : LaysPayload (message (bare bare-laid)).payload bare-first bare-laid.put-header.last.0 c.put_payload.result c.put_payload.new.0
-  bare-payload = subst (λ (x : List ℕ). LaysPayload x bare-first bare-laid.put-header.last.0 c.put_payload.result c.put_payload.new.0) (payload_is bare-laid.before.before.before) c.put_payload.ensures
+  bare_payload : LaysPayload (message (bare bare-laid)).payload bare-first bare-laid.put-header.last.0 c.put_payload.result c.put_payload.new.0
+  bare_payload = subst (λ (x : List ℕ). LaysPayload x bare-first bare-laid.put-header.last.0 c.put_payload.result c.put_payload.new.0) (payload_is bare-laid.before.before.before) c.put_payload.ensures
 
-  bare-last : (n : ℕ) × (written c.put_payload.result ≡ given n)
-  bare-last = last-at (bare bare-laid) _ _ (bare_head bare-laid) _ c.before.before.taken.ensures _ _ bare-options _ _ bare-payload
+  bare_last : (n : ℕ) × (written c.put_payload.result ≡ given n)
+  bare_last = last_at (bare bare-laid) _ _ (bare_head bare-laid) _ c.before.before.taken.ensures _ _ bare_options _ _ bare_payload
 
-  bare-whole : (n : ℕ) → written c.put_payload.result ≡ given n → Put (bare bare-laid).args.out.now 0 (bytes_written (bare bare-laid).args.strict (lent (bare bare-laid)) (bare bare-laid).args.packet) (bare-first + n) c.put_payload.new.0
-  bare-whole = whole-at (bare bare-laid) _ _ (bare_head bare-laid) _ c.before.before.taken.ensures _ _ bare-options _ _ bare-payload
+  bare_whole : (n : ℕ) → written c.put_payload.result ≡ given n → Put (bare bare-laid).args.out.now 0 (bytes_written (bare bare-laid).args.strict (lent (bare bare-laid)) (bare bare-laid).args.packet) (bare-first + n) c.put_payload.new.0
+  bare_whole = whole_at (bare bare-laid) _ _ (bare_head bare-laid) _ c.before.before.taken.ensures _ _ bare_options _ _ bare_payload
 
 -- The same of a packet with options.
 abbrev entry : tie.After-put-header2 invariant-loop decreases-loop → tie.Start invariant-loop decreases-loop
@@ -111,19 +111,19 @@ module _ (c : tie.After-put-payload2 invariant-loop decreases-loop) where
   abbrev laid : tie.After-put-header2 invariant-loop decreases-loop
   laid = c.before.before.before.before.before.before.before
 
-  options-at : Put laid.put-header2.last.0 c.before.before.before.before.taken3.result (leftover (lent (entry laid)) (records (entry laid)) 0 0) c.before.before.before.loop.next c.before.before.before.loop.out
-  options-at =
+  options_at : Put laid.put-header2.last.0 c.before.before.before.before.taken3.result (leftover (lent (entry laid)) (records (entry laid)) 0 0) c.before.before.before.loop.next c.before.before.before.loop.out
+  options_at =
       let p = (entry laid).args.packet in
       all _ _ _ _ _ _ _ _ c.before.before.before.loop.invariant.1 (none_left (records_of p) c.before.before.before.loop.i (omega (arith, length-take p.count p.options)))
 
-  payload-at : LaysPayload (message (entry laid)).payload c.before.before.before.loop.next c.before.before.before.loop.out c.put-payload2.result c.put-payload2.new.0
-  payload-at = subst (λ (x : List ℕ). LaysPayload x c.before.before.before.loop.next c.before.before.before.loop.out c.put-payload2.result c.put-payload2.new.0) (payload_is laid.before.before.before.before) c.put-payload2.ensures
+  payload_at : LaysPayload (message (entry laid)).payload c.before.before.before.loop.next c.before.before.before.loop.out c.put-payload2.result c.put-payload2.new.0
+  payload_at = subst (λ (x : List ℕ). LaysPayload x c.before.before.before.loop.next c.before.before.before.loop.out c.put-payload2.result c.put-payload2.new.0) (payload_is laid.before.before.before.before) c.put-payload2.ensures
 
   last : (n : ℕ) × (written c.put-payload2.result ≡ given n)
-  last = last-at (entry laid) _ _ (head laid) _ c.before.before.before.before.taken3.ensures _ _ options-at _ _ payload-at
+  last = last_at (entry laid) _ _ (head laid) _ c.before.before.before.before.taken3.ensures _ _ options_at _ _ payload_at
 
   all_put : (n : ℕ) → written c.put-payload2.result ≡ given n → Put (entry laid).args.out.now 0 (bytes_written (entry laid).args.strict (lent (entry laid)) (entry laid).args.packet) (c.before.before.before.loop.next + n) c.put-payload2.new.0
-  all_put = whole-at (entry laid) _ _ (head laid) _ c.before.before.before.before.taken3.ensures _ _ options-at _ _ payload-at
+  all_put = whole_at (entry laid) _ _ (head laid) _ c.before.before.before.before.taken3.ensures _ _ options_at _ _ payload_at
 
 sent-payload-requires : tie.Need-sent-payload-requires invariant-loop decreases-loop
 sent-payload-requires c κs = tt
@@ -144,10 +144,10 @@ put-payload-requires : tie.Need-put-payload-requires invariant-loop decreases-lo
 put-payload-requires c κs = tt
 
 taken-requires-2 : tie.Need-taken-requires-2 invariant-loop decreases-loop
-taken-requires-2 c κs = bare-last c.before.before
+taken-requires-2 c κs = bare_last c.before.before
 
 returns : tie.Need-returns invariant-loop decreases-loop
-returns c = bare-whole c.before.before.before _ c.taken2.ensures
+returns c = bare_whole c.before.before.before _ c.taken2.ensures
 
 add-result : tie.Need-overflow-add-result invariant-loop decreases-loop
 add-result c = omega (arith, (returns c).next, (bare c.before.before.before.before.before.before.before.before).pre.1)
@@ -164,7 +164,7 @@ taken-requires-3 c κs = head_at (entry c.before.before) _ _ (head c.before.befo
 loop-holds : tie.Need-loop-init invariant-loop decreases-loop
 loop-holds c =
     let st = entry c.before.before.before in
-    ((omega arith, (good _ _ st.pre.0).count, full st.args.packet st.good.1.1.0), begin-at st _ _ (head c.before.before.before) _ c.taken3.ensures)
+    ((omega arith, (good _ _ st.pre.0).count, full st.args.packet st.good.1.1.0), begin_at st _ _ (head c.before.before.before) _ c.taken3.ensures)
 
 mul-record : tie.Need-overflow-mul-record invariant-loop decreases-loop
 mul-record c = omega arith
@@ -179,7 +179,7 @@ put-option-requires : tie.Need-put-option-requires invariant-loop decreases-loop
 put-option-requires c κs = tt
 
 taken-requires-4 : tie.Need-taken-requires-4 invariant-loop decreases-loop
-taken-requires-4 c κs = (_, (rw c.before.before.before.before.value.ensures.0 at c.before.before.put-option.ensures).answer ∙ option-given _ _ _ _ _ _ _ _ c.before.before.before.before.before.before.before.loop.invariant.1 _ (next c.before.before.before.before.before))
+taken-requires-4 c κs = (_, (rw c.before.before.before.before.value.ensures.0 at c.before.before.put-option.ensures).answer ∙ option_given _ _ _ _ _ _ _ _ c.before.before.before.before.before.before.before.loop.invariant.1 _ (next c.before.before.before.before.before))
 
 add-next : tie.Need-overflow-add-next invariant-loop decreases-loop
 add-next c = omega (arith, (turn_at c).ranges, (entry c.before.before.before.before.before.before.before.before.before.before.before.before).good.0)

@@ -1,7 +1,7 @@
 -- `Builder::start`: what was judged, and then header and token by their own answer.
 use mathlib.Core.Path.{refl, sym, ap, ◌∙◌}
 use Rattle.refusal.specs.Answer.{outcome}
-use Rattle.building.proofs.Calls.{start_refused, start-by}
+use Rattle.building.proofs.Calls.{start_refused, start_by}
 use borrow.Author.Rules.{rules}
 use Rattle.building.proofs.Builder.start.Statement.{statement}
 use Rattle.building.proofs.Builder.start.Tie as tie
@@ -34,13 +34,13 @@ same_length : tie.Need-same-length
 same_length c = search rules
 
 returns-2 : tie.Need-returns-2
-returns-2 c = start-by _ _ _ (sym c.before.before.before.before.before.before.before.before.before.judged-start.ensures ∙ ap outcome c.before.before.before.before.before.before.before.enum_told.given.1) _ _ _ c.before.before.before.before.before.put-header.ensures _ (rw c.before.e2.given.1)
+returns-2 c = start_by _ _ _ (sym c.before.before.before.before.before.before.before.before.before.judged-start.ensures ∙ ap outcome c.before.before.before.before.before.before.before.enum_told.given.1) _ _ _ c.before.before.before.before.before.put-header.ensures _ (rw c.before.e2.given.1)
 
 same-length-2 : tie.Need-same-length-2
 same-length-2 c = search rules
 
 returns-3 : tie.Need-returns-3
-returns-3 c = start-by _ _ _ (sym c.before.before.before.before.before.before.before.before.before.before.judged-start.ensures ∙ ap outcome c.before.before.before.before.before.before.before.before.enum_told.given.1) _ _ _ c.before.before.before.before.before.before.put-header.ensures _ (rw (c.is-empty.ensures, c.before.before.at.given.1))
+returns-3 c = start_by _ _ _ (sym c.before.before.before.before.before.before.before.before.before.before.judged-start.ensures ∙ ap outcome c.before.before.before.before.before.before.before.before.enum_told.given.1) _ _ _ c.before.before.before.before.before.before.put-header.ensures _ (rw (c.is-empty.ensures, c.before.before.at.given.1))
 
 pub start_spec : {M : Type 1} → statement M
 start_spec =

@@ -6,7 +6,7 @@ use native.Mathlib.Omega.{arith}
 use lib.ListN.{length, drop, length-take}
 use Rattle.packet.specs.Limits.{max_options}
 use Rattle.packet.specs.Packet.{records_of, of_number}
-use Rattle.packet.proofs.Records.{left-of, left_not, none_left}
+use Rattle.packet.proofs.Records.{left_of, left_not, none_left}
 use Rattle.packet.proofs.Packet.count_of.Statement.{statement}
 use Rattle.packet.proofs.Packet.count_of.Tie as tie
 use Rattle.packet.proofs.Held.{full}
@@ -44,7 +44,7 @@ loop-again : tie.Need-loop-preserved invariant-loop decreases-loop
 loop-again c =
     let b = c.before.before in
     let a = b.before.before.args in
-    let e = left-of a.t1.options a.t1.count b.loop.i (omega arith) a.number c.if1.true in
+    let e = left_of a.t1.options a.t1.count b.loop.i (omega arith) a.number c.if1.true in
     (omega arith, (b.loop.invariant.1.0, omega (arith, ap length e)))
 
 add-i-2 : tie.Need-overflow-add-i-2 invariant-loop decreases-loop

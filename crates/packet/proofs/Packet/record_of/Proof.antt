@@ -7,7 +7,7 @@ use lib.ListN.{length, drop, get_or, length-take}
 use Rattle.packet.specs.Limits.{max_options}
 use Rattle.packet.specs.Packet.{none, records_of, of_number}
 use Rattle.packet.specs.declared.OptionRecord.{OptionRecord}
-use Rattle.packet.proofs.Records.{left-of, left_not, none_left, later}
+use Rattle.packet.proofs.Records.{left_of, left_not, none_left, later}
 use Rattle.packet.proofs.Packet.record_of.Statement.{statement}
 use Rattle.packet.proofs.Packet.record_of.Tie as tie
 use Rattle.packet.proofs.Held.{full}
@@ -42,7 +42,7 @@ returns : tie.Need-returns invariant-loop decreases-loop
 returns c =
     let b = c.before.before.before.before in
     let a = b.before.before.args in
-    let e = left-of a.t1.options a.t1.count b.loop.i (omega arith) a.number c.before.before.if1.true in
+    let e = left_of a.t1.options a.t1.count b.loop.i (omega arith) a.number c.before.before.if1.true in
     ap (λ (l : List OptionRecord). get_or l 0 none) (sym e)
     ∙ (ap (λ (j : ℕ). get_or (of_number a.number (drop b.loop.i (records_of a.t1))) j none) (sym c.before.if2.true) ∙ b.loop.invariant.1.1)
 
@@ -59,7 +59,7 @@ loop-again : tie.Need-loop-preserved invariant-loop decreases-loop
 loop-again c =
     let b = c.before.before.before in
     let a = b.before.before.args in
-    let e = left-of a.t1.options a.t1.count b.loop.i (omega arith) a.number c.before.if1.true in
+    let e = left_of a.t1.options a.t1.count b.loop.i (omega arith) a.number c.before.if1.true in
     let k = later _ _ _ e b.loop.left (omega (arith, c.if2.false)) in
     (omega arith, (b.loop.invariant.1.0, sym k ∙ b.loop.invariant.1.1))
 

@@ -1,7 +1,7 @@
 -- `gap_in`: what was passed, and what the rest has before `::`, is what the whole has.
 use mathlib.Core.Path.{sym, ◌∙◌}
 use native.Mathlib.Omega.{arith}
-use Rattle.peer_reading.proofs.Grouping.{gap-found, gap-later, gap-end}
+use Rattle.peer_reading.proofs.Grouping.{gap_found, gap_later, gap_end}
 use borrow.Author.Rules.{rules}
 use Prim.Native.Nat.{◌+◌, ◌-◌, ◌≤◌}
 use mathlib.Core.Path.{◌≡◌}
@@ -23,7 +23,7 @@ colons-at-requires : tie.Need-colons-at-requires invariant-loop decreases-loop
 colons-at-requires c κs = search rules
 
 returns : tie.Need-returns invariant-loop decreases-loop
-returns c = let l = c.before.before.before in omega (arith, l.loop.invariant.1, gap-found l.before.before.args.text.now l.loop.i (omega arith) (sym c.before.colons-at.ensures ∙ c.if1.true))
+returns c = let l = c.before.before.before in omega (arith, l.loop.invariant.1, gap_found l.before.before.args.text.now l.loop.i (omega arith) (sym c.before.colons-at.ensures ∙ c.if1.true))
 
 add-i : tie.Need-overflow-add-i invariant-loop decreases-loop
 add-i c = search rules
@@ -32,10 +32,10 @@ loop-less : tie.Need-loop-smaller invariant-loop decreases-loop
 loop-less c = search rules
 
 loop-again : tie.Need-loop-preserved invariant-loop decreases-loop
-loop-again c = let l = c.before.before.before in (omega arith, omega (arith, l.loop.invariant.1, gap-later l.before.before.args.text.now l.loop.i (omega arith) (sym c.before.colons-at.ensures ∙ c.if1.false)))
+loop-again c = let l = c.before.before.before in (omega arith, omega (arith, l.loop.invariant.1, gap_later l.before.before.args.text.now l.loop.i (omega arith) (sym c.before.colons-at.ensures ∙ c.if1.false)))
 
 returns-2 : tie.Need-returns-2 invariant-loop decreases-loop
-returns-2 c = omega (arith, c.before.loop.invariant.1, gap-end c.before.before.before.args.text.now c.before.loop.i (omega arith))
+returns-2 c = omega (arith, c.before.loop.invariant.1, gap_end c.before.before.before.args.text.now c.before.loop.i (omega arith))
 
 pub gap_in_spec : {M : Type 1} → statement M
 gap_in_spec =

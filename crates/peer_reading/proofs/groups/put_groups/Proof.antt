@@ -6,7 +6,7 @@ use mathlib.Core.Path.{sym}
 use native.Mathlib.Omega.{arith}
 use Rattle.placing.proofs.Puts.{Putting, putting_start, putting_turn, puts_none}
 use Rattle.peer_reading.specs.Reading.{group_bytes}
-use Rattle.peer_reading.proofs.Grouping.{side-none, side-some, bytes-colon, bytes-digit, bytes-end}
+use Rattle.peer_reading.proofs.Grouping.{side_none, side_some, bytes_colon, bytes_digit, bytes_end}
 use Rattle.peer_reading.proofs.groups.put_groups.Statement.{statement}
 use Rattle.peer_reading.proofs.groups.put_groups.Tie as tie
 
@@ -18,7 +18,7 @@ decreases-loop out₀ at text value₀ next₀ i₀ out value next i = length te
 
 returns : tie.Need-returns invariant-loop decreases-loop
 returns c =
-    rw (side-none _ c.if1.true) (puts_none _ _)
+    rw (side_none _ c.if1.true) (puts_none _ _)
 
 loop-holds : tie.Need-loop-init invariant-loop decreases-loop
 loop-holds c = putting_start _ _ _
@@ -38,7 +38,7 @@ loop-less c = search rules
 loop-again : tie.Need-loop-preserved invariant-loop decreases-loop
 loop-again c =
     let l = c.before.before.before.before.before.before.before in
-    putting_turn l.loop.invariant (bytes-colon l.before.before.before.before.args.text.now l.loop.value l.loop.i (omega arith) c.before.before.before.before.if2.true) c.before.before.put-pair.ensures
+    putting_turn l.loop.invariant (bytes_colon l.before.before.before.before.args.text.now l.loop.value l.loop.i (omega arith) c.before.before.before.before.if2.true) c.before.before.put-pair.ensures
 
 mul-value : tie.Need-overflow-mul-value invariant-loop decreases-loop
 mul-value c = search rules
@@ -64,7 +64,7 @@ loop-less-2 c = search rules
 loop-again-2 : tie.Need-loop-preserved-2 invariant-loop decreases-loop
 loop-again-2 c =
     let l = c.before.before.before.before.before in
-    rw (c.hex-value.ensures, sym (bytes-digit l.before.before.before.before.args.text.now l.loop.value l.loop.i (omega arith) c.before.before.if2.false)) l.loop.invariant
+    rw (c.hex-value.ensures, sym (bytes_digit l.before.before.before.before.args.text.now l.loop.value l.loop.i (omega arith) c.before.before.if2.false)) l.loop.invariant
 
 put-pair-requires-2 : tie.Need-put-pair-requires-2 invariant-loop decreases-loop
 put-pair-requires-2 c κs = search rules
@@ -75,8 +75,8 @@ same_length c = search rules
 returns-2 : tie.Need-returns-2 invariant-loop decreases-loop
 returns-2 c =
     let l = c.before.before.before.before.before in
-    rw (side-some l.before.before.before.before.args.text.now l.before.if1.false)
-    (l.loop.invariant.onward _ _ (rw (bytes-end l.before.before.before.before.args.text.now l.loop.value l.loop.i c.before.before.before.before.loop-test.false) c.before.before.put-pair2.ensures))
+    rw (side_some l.before.before.before.before.args.text.now l.before.if1.false)
+    (l.loop.invariant.onward _ _ (rw (bytes_end l.before.before.before.before.args.text.now l.loop.value l.loop.i c.before.before.before.before.loop-test.false) c.before.before.put-pair2.ensures))
 
 pub put_groups_spec : {M : Type 1} → statement M
 put_groups_spec =

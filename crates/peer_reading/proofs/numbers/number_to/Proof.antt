@@ -3,7 +3,7 @@ use mathlib.Core.Path.{sym, ap, ◌∙◌}
 use native.Mathlib.Omega.{arith}
 use lib.ListN.{length-take}
 use Rattle.decimal.specs.Decimal.{decimal_of}
-use Rattle.peer_reading.proofs.Numbered.{told_none, told-number, told-bad}
+use Rattle.peer_reading.proofs.Numbered.{told_none, told_number, told_bad}
 use borrow.Author.Rules.{rules}
 use Rattle.peer_reading.proofs.numbers.number_to.Statement.{statement}
 use Rattle.peer_reading.proofs.numbers.number_to.Tie as tie
@@ -30,10 +30,10 @@ enum_told : tie.Need-enum-told
 enum_told c = search rules
 
 returns-2 : tie.Need-returns-2
-returns-2 c = told-number _ _ _ _ c.before.before.before.before.before.before.part-end.ensures _ c.before.before.before.before.before.if1.false (sym (ap decimal_of c.before.value.given.1) ∙ c.before.before.before.number_in.ensures)
+returns-2 c = told_number _ _ _ _ c.before.before.before.before.before.before.part-end.ensures _ c.before.before.before.before.before.if1.false (sym (ap decimal_of c.before.value.given.1) ∙ c.before.before.before.number_in.ensures)
 
 returns-3 : tie.Need-returns-3
-returns-3 c = told-bad _ _ _ _ c.before.before.before.before.before.part-end.ensures c.before.before.before.before.if1.false (sym (ap decimal_of c.enum_told.given.1) ∙ c.before.before.number_in.ensures)
+returns-3 c = told_bad _ _ _ _ c.before.before.before.before.before.part-end.ensures c.before.before.before.before.if1.false (sym (ap decimal_of c.enum_told.given.1) ∙ c.before.before.number_in.ensures)
 
 pub number_to_spec : {M : Type 1} → statement M
 number_to_spec =

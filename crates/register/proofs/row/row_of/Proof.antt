@@ -6,7 +6,7 @@ use lib.ListN.{drop}
 use Rattle.register.specs.Register.{register, row_in}
 use Rattle.register.specs.declared.row.Row.{Row}
 use Rattle.register.specs.declared.row.Listing.TheVariants.{Listed}
-use Rattle.register.proofs.Rows.{row_here, row_on, row-past, row_count}
+use Rattle.register.proofs.Rows.{row_here, row_on, row_past, row_count}
 use Rattle.register.proofs.row.row_of.Statement.{statement}
 use Rattle.register.proofs.row.row_of.Tie as tie
 
@@ -45,7 +45,7 @@ loop-again c =
 returns-2 : tie.Need-returns-2 invariant-loop decreases-loop
 returns-2 c =
     let l = c.before.loop in
-    sym (l.invariant.1 ∙ row-past c.before.before.args.number l.i register (omega (arith, row_count)))
+    sym (l.invariant.1 ∙ row_past c.before.before.args.number l.i register (omega (arith, row_count)))
 
 pub row_of_spec : {M : Type 1} → statement M
 row_of_spec =
