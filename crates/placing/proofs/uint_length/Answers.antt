@@ -1,20 +1,13 @@
-use Rattle.std.proofs.Common.{rules, ◌≡◌, [], ◌∷◌, ◌+◌, ◌-◌, ◌*◌, ◌≤◌, ◌<◌, min, length, take, ℕ, ◌/◌, ◌%◌, Bool, true, false, nat_eq, nat_lt, List, ◌++◌, slice_index_or, slice_set, bit_and, bit_or, Fits, w8, w32, w64, Bor, MutBor}
-use Rattle.rfc.specs.Uint.{uint}
-use Rattle.placing.specs.Put.{Puts, Put}
+-- `uint_length` meets its contract: what is counted and what is left make all (`Counting`).
+use native.Mathlib.Omega.{arith}
+use Rattle.placing.proofs.Draining.{Counting, count_start, count_turn, count_end}
 use Rattle.placing.proofs.uint_length.Goals as goal
 
--- src/lib.rt:161:5
-pub loop_rest_init : goal.loop-rest-init
-loop_rest_init c = ?
+pub loop-rest-init : goal.loop-rest-init
+loop-rest-init c = count_start _ (omega arith)
 
--- src/lib.rt:163:17
-pub overflow_add_count : goal.overflow_add-count
-overflow_add_count c = ?
+pub loop-rest-preserved : goal.loop-rest-preserved
+loop-rest-preserved c = count_turn (omega arith) c.loop-rest.invariant
 
--- src/lib.rt:161:5
-pub loop_rest_preserved : goal.loop-rest-preserved
-loop_rest_preserved c = ?
-
--- src/lib.rt:156:1
 pub returns : goal.returns
-returns c = ?
+returns c = count_end (omega arith) c.loop-rest.invariant

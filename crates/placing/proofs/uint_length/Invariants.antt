@@ -1,11 +1,10 @@
-use Rattle.std.proofs.Common.{◌≡◌, [], ◌∷◌, ◌+◌, ◌-◌, ◌*◌, ◌≤◌, ◌<◌, min, length, take, ℕ}
-use Rattle.rfc.specs.Uint.{uint}
-use Rattle.placing.specs.Put.{Puts, Put}
+-- `uint_length` meets its contract: what is counted and what is left make all (`Counting`).
+use native.Mathlib.Omega.{arith}
+use Rattle.placing.proofs.Draining.{Counting, count_start, count_turn, count_end}
 use Rattle.placing.proofs.uint_length.Given as goal
 
-abbrev pub invariant_loop_rest : goal.invariant-loop-rest
-invariant_loop_rest l = ?
+abbrev pub invariant-loop-rest : goal.invariant-loop-rest
+invariant-loop-rest l = Counting l.value l.rest l.count
 
--- proposed from the loop's first test
-abbrev pub decreases_loop_rest : goal.decreases-loop-rest
-decreases_loop_rest l = l.rest
+abbrev pub decreases-loop-rest : goal.decreases-loop-rest
+decreases-loop-rest l = l.rest

@@ -1,0 +1,12 @@
+-- `put_ends`: the first bytes and the last are all of them.
+use native.Mathlib.Omega.{arith}
+use lib.Seq.{length-take-le}
+use Rattle.placing.proofs.Copy.{ends_whole}
+use mathlib.Core.Path.{sym}
+use borrow.Author.Rules.{rules}
+use Rattle.placing.proofs.put_ends.Goals as goal
+
+pub returns : goal.returns
+returns c =
+    let a = c.args in
+    ends_whole _ _ _ _ a.bytes.now a.half _ _ (omega arith) (omega arith) c.put_piece.ensures c.put_piece-2.ensures

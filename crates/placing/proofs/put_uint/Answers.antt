@@ -1,0 +1,13 @@
+-- `put_uint` meets its contract: the bytes that are stored stand behind those of what is left (`Filling`).
+use mathlib.Core.Path.{refl}
+use native.Mathlib.Omega.{arith}
+use Rattle.placing.proofs.Puts.{puts_length}
+use Rattle.placing.proofs.Draining.{Filling, fill_start, place_before, fill_turn, fill_end}
+use Rattle.placing.proofs.put_uint.Goals as goal
+
+pub loop-rest-preserved : goal.loop-rest-preserved
+loop-rest-preserved c = fill_turn _ _ c.loop-rest.invariant c.loop-rest-test.true
+
+pub returns : goal.returns
+returns c =
+    rw (fill_end _ _ c.loop-rest.invariant (omega arith)) c.put_bytes.ensures
