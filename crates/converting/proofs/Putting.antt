@@ -44,7 +44,7 @@ module _ (from to : Form) (s : List ℕ) where
       first = left_first from s at w.rest w.left h
 
       fits : 0 + length first.message.datagram ≤ length array
-      fits = omega (arith, w.array-is, first.sized.most)
+      fits = omega (arith, w.array_is, first.sized.most)
 
       -- The step isn't refused.
       pub put_some {ℓ} : {C : Type ℓ} (r : Step) (newer : List ℕ) (k : ℕ) → NextMessage from s at array 0 r newer → step_read r ≡ refused k → C
@@ -65,7 +65,7 @@ module _ (from to : Form) (s : List ℕ) where
       put_given r len next newer e n =
           let d : List ℕ = first.message.datagram in
           let t = taken from s at w.rest first array 0 fits len next newer (rw e at n) in
-          let z : length newer ≡ full_size = ap length t.out ∙ (length-sets array 0 d ∙ w.array-is) in
+          let z : length newer ≡ full_size = ap length t.out ∙ (length-sets array 0 d ∙ w.array_is) in
           let f : take len newer ≡ d = ap (take len) (t.out ∙ put_front array d (omega (arith, fits))) ∙ take_at d (drop (length d) array) len (sym t.len_is) in
           let k : at + 19 - (at + 1) ≡ 18 = omega arith in
           record {
@@ -75,8 +75,8 @@ module _ (from to : Form) (s : List ℕ) where
             size = z;
             peer = ap (λ (i : ℕ). take i (drop (at + 1) s)) k ∙ first.peer;
             inside = first.inside;
-            next_is = t.next-is;
-            onwards = omega (arith, t.next-is, message_some from first.message);
+            next_is = t.next_is;
+            onwards = omega (arith, t.next_is, message_some from first.message);
           }
 
       pub put_turn : (len next : ℕ) (newer newOut : List ℕ) (r : ℕ) (peer datagram : List ℕ) → (g : Given len next newer) → peer ≡ first.message.peer → datagram ≡ first.message.datagram
@@ -86,7 +86,7 @@ module _ (from to : Form) (s : List ℕ) where
           ap (λ (x : List ℕ). record { peer = x; datagram = datagram }) p ∙ ap (λ (x : List ℕ). record { peer = first.message.peer; datagram = x }) d in
           record {
             rest = first.others;
-            left = rw g.next-is first.left;
+            left = rw g.next_is first.left;
             put = putting_turn w.put (ap (stream_of to) first.is) (subst (λ (x : Frozen). Puts out place (message_of to x) r newOut) m q);
             array_is = g.size;
           }

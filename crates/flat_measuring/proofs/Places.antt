@@ -53,7 +53,7 @@ pub value_held : (lengths : Lengths) (l : List ℕ) (i : ℕ) → i < get_or l 1
     → (record_at l (11 + 4 * i)).start + (record_at l (11 + 4 * i)).len ≤ length_in lengths (record_at l (11 + 4 * i)).home
 value_held lengths l i h e =
     let r = record_at l (11 + 4 * i) in
-    Judged.value-inside lengths r (neither (bad_value lengths r) (bad_values lengths (drop (i + 1) (records_of (packet_in l)))) (ap (bad_values lengths) (sym (here l i h)) ∙ e)).0
+    Judged.value_inside lengths r (neither (bad_value lengths r) (bad_values lengths (drop (i + 1) (records_of (packet_in l)))) (ap (bad_values lengths) (sym (here l i h)) ∙ e)).0
 
 -- What is inside the store that a home's number names.
 module _ (s : Stores) (home n : ℕ) (h : n ≤ length_in (lengths_of s) (home_of home)) where

@@ -53,7 +53,7 @@ module _ (s : Stores) (rs : List OptionRecord) (old : List ℕ) (from end : ℕ)
       turned : (q : ℕ) (new : List ℕ) → Loosely out next (option_layout before (option_of s r)) end q new → Going s rs old from end new r.number q (i + 1)
       turned q new l =
           let bytes = option_layout before (option_of s r) in
-          let given = Exactly.option-given s rs old from g.exact before next i g.putting r d in
+          let given = Exactly.option_given s rs old from g.exact before next i g.putting r d in
           let same : length out ≡ length g.exact = g.kept ∙ sym g.putting.kept in
           record {
             exact = sets g.exact next bytes;

@@ -207,12 +207,12 @@ module _ (form : Form) (s : List ℕ) where
     stream_turn len next h e =
         let o : Whole at len next = whole_of at len next e in
         let m : Found = o.found in
-        let room : at + len < next = omega (arith, o.stands.room, o.length_is, o.next-is) in
+        let room : at + len < next = omega (arith, o.stands.room, o.length_is, o.next_is) in
         record {
           few = omega (arith, w.few);
           short = omega (arith, w.short);
           whole = w.whole ∙ (ap (λ (a : Answer (List Frozen)). plus_tally count bytes (tally a)) (from_more form s at m h o.is)
               ∙ (tally_more count bytes m.message (messages_from form s m.next)
               ∙ (ap (λ (k : ℕ). plus_tally (count + 1) (bytes + k) (tally (messages_from form s m.next))) o.length_is
-              ∙ ap (λ (k : ℕ). plus_tally (count + 1) (bytes + len) (tally (messages_from form s k))) o.next-is)));
+              ∙ ap (λ (k : ℕ). plus_tally (count + 1) (bytes + len) (tally (messages_from form s k))) o.next_is)));
         }

@@ -37,7 +37,7 @@ module _ (form : Form) (s : List ℕ) (at : ℕ) where
     -- The datagram judged is the message judged.
     pub strict_is : (a : Answer Extent) → a ≡ strict_before (body_bytes (body_at form s (length s) (full form) (at + 19))) next → a ≡ strict_at form s at
     unfolding strict_at
-    strict_is a e = rw (o.is, o.next-is) (e ∙ ap (λ (d : List ℕ). strict_before d next) (whole_bytes form s at len next o))
+    strict_is a e = rw (o.is, o.next_is) (e ∙ ap (λ (d : List ℕ). strict_before d next) (whole_bytes form s at len next o))
 
     -- A datagram of one chunk stands in the stream in one piece.
     module _ (one : len ≤ full form) where

@@ -78,7 +78,7 @@ module _ (form : Form) (s : List ℕ) where
 
     module _ (len next : ℕ) (h : at < length s) (o : Accepted form s at len next) where
       pub strict_room : at + len < next
-      strict_room = omega (arith, o.whole.stands.room, o.whole.length_is, o.whole.next-is)
+      strict_room = omega (arith, o.whole.stands.room, o.whole.length_is, o.whole.next_is)
 
       pub strict_turn : (n : ℕ) → n ≡ chunk_count other len → StrictWalk other (count + 1) (bytes + len) (chunks + n) next
       strict_turn n e =
@@ -94,7 +94,7 @@ module _ (form : Form) (s : List ℕ) where
                 ∙ (counts_more other count bytes chunks m.message (onward (messages_from form s m.next) strict)
                 ∙ (ap (λ (k : ℕ). plus_counts (count + 1) (bytes + k) (chunks + chunk_count other k) (strict_from form other s m.next)) o.whole.length_is
                 ∙ (ap (λ (k : ℕ). plus_counts (count + 1) (bytes + len) (chunks + k) (strict_from form other s m.next)) (sym e)
-                ∙ ap (λ (k : ℕ). plus_counts (count + 1) (bytes + len) (chunks + n) (strict_from form other s k)) o.whole.next-is)))));
+                ∙ ap (λ (k : ℕ). plus_counts (count + 1) (bytes + len) (chunks + n) (strict_from form other s k)) o.whole.next_is)))));
           }
 
   -- Where the stream is refused from a position on, it is for that.

@@ -95,15 +95,15 @@ module _ (form : Form) (s : List ℕ) where
           let e : entries form at to w.rest ≡ ((at + 1) ∷ to ∷ len ∷ []) ++ entries form next (to + len) first.others =
           ap (entries form at to) first.is
           ∙ (ap (λ (n : ℕ). (at + 1) ∷ to ∷ n ∷ entries form (at + length (message_of form first.message)) (to + n) first.others) (sym t.len_is)
-          ∙ ap (λ (n : ℕ). (at + 1) ∷ to ∷ len ∷ entries form n (to + len) first.others) (sym t.next-is)) in
+          ∙ ap (λ (n : ℕ). (at + 1) ∷ to ∷ len ∷ entries form n (to + len) first.others) (sym t.next_is)) in
           record {
             rest = first.others;
-            left = rw t.next-is first.left;
+            left = rw t.next_is first.left;
             listed = putting_turn w.listed e (whole_puts (put_three list place (at + 1) to len) list_places);
             copied = putting_turn w.copied (ap datagrams_of first.is) t.put;
             places = omega (arith, w.places, many);
             room = omega (arith, w.room, counts, t.len_is);
-            short = omega (arith, w.short, shorter, t.len_is, t.next-is);
+            short = omega (arith, w.short, shorter, t.len_is, t.next_is);
           }
 
       -- The message that the step gave, and the walk after it.
@@ -117,7 +117,7 @@ module _ (form : Form) (s : List ℕ) where
           let t = taken form s at w.rest first out to list_room len next newOut (rw e at n) in
           record {
             short = omega (arith, w.short, shorter, t.len_is, first.left.inside);
-            onwards = omega (arith, t.next-is, message_some form first.message);
+            onwards = omega (arith, t.next_is, message_some form first.message);
             walk = list_turn len next newOut t;
           }
 

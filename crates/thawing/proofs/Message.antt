@@ -62,7 +62,7 @@ module _ (form : Form) (s : List ℕ) (at : ℕ) where
 
     pub whole_extent : extent_of o.found ≡ record { len = len; next = next }
     whole_extent =
-        ap (λ (n : ℕ). record { len = n; next = o.found.next }) o.length_is ∙ ap (λ (n : ℕ). record { len = len; next = n }) o.next-is
+        ap (λ (n : ℕ). record { len = n; next = o.found.next }) o.length_is ∙ ap (λ (n : ℕ). record { len = len; next = n }) o.next_is
 
     module _ (old : List ℕ) (to : ℕ) where
       told : (r : Step) (new : List ℕ) → step_read r ≡ room_from (length old) to o.found.message.datagram (extent_of o.found)

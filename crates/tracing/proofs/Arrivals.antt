@@ -131,7 +131,7 @@ module _ (form : Form) (s : List ℕ) (at : ℕ) where
     unfolding arrival_of header_of
     same =
         let p : peer ≡ o.found.timed.message.peer = stands ∙ (peer_is form s at o.stands.found o.stands.message ∙ ap (λ (x : TimedFound). x.timed.message.peer) (sym o.stands.value)) in
-        rw (tells, p, ← o.time-is, header) refl
+        rw (tells, p, ← o.time_is, header) refl
 
     pub arrives : ◌≡◌ {A = Beside Coming} (record { answer = given tt; value = record { arrival = record { time = time; type = number_of_type kind; peer = peer; id = raw.message_id }; next = next } }) (beside no_arrival (arrival_at form s at))
-    arrives = rw o.is (ap (λ (a : Arrival). record { answer = given tt; value = record { arrival = a; next = next } }) (sym same) ∙ ap (λ (n : ℕ). record { answer = given tt; value = record { arrival = arrival_of o.found.timed; next = n } }) (sym o.next-is))
+    arrives = rw o.is (ap (λ (a : Arrival). record { answer = given tt; value = record { arrival = a; next = next } }) (sym same) ∙ ap (λ (n : ℕ). record { answer = given tt; value = record { arrival = arrival_of o.found.timed; next = n } }) (sym o.next_is))

@@ -68,8 +68,8 @@ module _ (form : Form) (s : List ℕ) (at : ℕ) where
       record {
         accepts = a;
         found = timed_given form s at e a.whole.found a.whole.is;
-        onward = omega (arith, a.whole.stands.room, a.whole.next-is);
-        inside = omega (arith, a.whole.stands.inside, a.whole.next-is);
+        onward = omega (arith, a.whole.stands.room, a.whole.next_is);
+        inside = omega (arith, a.whole.stands.inside, a.whole.next_is);
       }
 
   pub taken : (len next : ℕ) → strict_timed_at form s at ≡ given (record { len = len; next = next }) → Taken len next
@@ -109,7 +109,7 @@ module _ (form : Form) (s : List ℕ) where
               ∙ (ap (λ (a : Answer (List Timed)). plus count (count_of (onward a strictly))) (from_more form s at m h t.found)
               ∙ (ap (λ (a : Answer (List Timed)). plus count (count_of a)) (strictly_more m.timed t.accepts.packet t.accepts.reads (traced_from form s m.next))
               ∙ (plus_more count m.timed (strict_from m.next)
-              ∙ ap (λ (n : ℕ). plus (count + 1) (count_of (strict_from n))) o.next-is)));
+              ∙ ap (λ (n : ℕ). plus (count + 1) (count_of (strict_from n))) o.next_is)));
         }
 
   -- Before a message of what is judged without its datagrams: there is a value from the start exactly when there is one from here.
@@ -154,7 +154,7 @@ module _ (form : Form) (s : List ℕ) where
 
   pub measures : (at time len next : ℕ) → is_time s at ≡ true → time ≡ time_at s at → Whole form s (at + 5) len next → given (record { time = time; len = len; next = next }) ≡ timed_extent (timed_at form s at)
   measures at time len next t e o =
-      extents_are time len next (time_at s at) (length o.found.message.datagram) o.found.next e (sym o.length_is) (sym o.next-is)
+      extents_are time len next (time_at s at) (length o.found.message.datagram) o.found.next e (sym o.length_is) (sym o.next_is)
       ∙ sym (ap timed_extent (timed_given form s at t o.found o.is))
 
   -- A message that wasn't measured wasn't found.
@@ -178,7 +178,7 @@ module _ (form : Form) (s : List ℕ) where
           whole = w.whole
               ∙ (ap whether (from_more form s at o.found h o.is)
               ∙ (whether_more o.found.timed (traced_from form s o.found.next)
-              ∙ ap (λ (n : ℕ). whether (traced_from form s n)) o.next-is));
+              ∙ ap (λ (n : ℕ). whether (traced_from form s n)) o.next_is));
         }
 
   -- Where the trace is refused from a position on, it is for that.

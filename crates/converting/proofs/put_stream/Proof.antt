@@ -21,7 +21,7 @@ loop-holds : tie.Need-loop-init invariant-loop decreases-loop
 loop-holds c = rw c.before.before.requires.are (put_start _ _ _ _ _ refl c.before.before.requires)
 
 slice-aggregate-next-message : tie.Need-slice-aggregate-next-message invariant-loop decreases-loop
-slice-aggregate-next-message c = sym c.before.before.loop.invariant.array-is
+slice-aggregate-next-message c = sym c.before.before.loop.invariant.array_is
 
 next-message-requires : tie.Need-next-message-requires invariant-loop decreases-loop
 next-message-requires c κs = search rules

@@ -33,10 +33,10 @@ here c =
     left p.options p.count c.before.loop.i (omega (arith, used c.before.before))
 
 returns : tie.Need-returns invariant-loop decreases-loop
-returns c = Places.spanned-not c.before.args.t1 _ (Order.over-full c.before.args.t1 c.if1.true)
+returns c = Places.spanned_not c.before.args.t1 _ (Order.over_full c.before.args.t1 c.if1.true)
 
 loop-holds : tie.Need-loop-init invariant-loop decreases-loop
-loop-holds c = record { ordered = Order.ordered-none _; lows = Places.counts-none _ _; highs = Places.counts-none _ _ }
+loop-holds c = record { ordered = Order.ordered_none _; lows = Places.counts_none _ _; highs = Places.counts_none _ _ }
 
 mul-record : tie.Need-overflow-mul-record invariant-loop decreases-loop
 mul-record c = omega arith
@@ -48,14 +48,14 @@ returns-2 : tie.Need-returns-2 invariant-loop decreases-loop
 returns-2 c =
     let l = c.before.before.before.before in
     let p = l.before.before.args.t1 in
-    Places.spanned-not p _ (Order.unsound p l.before.if1.false (Order.falls _ _ _ l.loop.invariant.ordered _ (here c.before.before.before) c.if2.true))
+    Places.spanned_not p _ (Order.unsound p l.before.if1.false (Order.falls _ _ _ l.loop.invariant.ordered _ (here c.before.before.before) c.if2.true))
 
 -- The counts after a record: each with one more where the record's number is lower.
 lows : (c : tie.After-lower invariant-loop decreases-loop) → Counts (records_of c.before.before.before.before.before.before.before.args.t1) c.before.before.before.before.before.before.before.args.number (c.before.before.before.before.before.loop.low + c.lower.result) (c.before.before.before.before.before.loop.i + 1)
-lows c = rw c.lower.ensures (Places.counts-next _ _ _ _ c.before.before.before.before.before.loop.invariant.lows _ (here c.before.before.before.before))
+lows c = rw c.lower.ensures (Places.counts_next _ _ _ _ c.before.before.before.before.before.loop.invariant.lows _ (here c.before.before.before.before))
 
 highs : (c : tie.After-lower2 invariant-loop decreases-loop) → Counts (records_of c.before.before.before.before.before.before.before.before.args.t1) (c.before.before.before.before.before.before.before.before.args.number + 1) (c.before.before.before.before.before.before.loop.high + c.lower2.result) (c.before.before.before.before.before.before.loop.i + 1)
-highs c = rw c.lower2.ensures (Places.counts-next _ _ _ _ c.before.before.before.before.before.before.loop.invariant.highs _ (here c.before.before.before.before.before))
+highs c = rw c.lower2.ensures (Places.counts_next _ _ _ _ c.before.before.before.before.before.before.loop.invariant.highs _ (here c.before.before.before.before.before))
 
 lower-requires : tie.Need-lower-requires invariant-loop decreases-loop
 lower-requires c κs = search rules
@@ -83,7 +83,7 @@ loop-again c =
     let l = c.before.before.before.before.before.before in
     let fits = used l.before in
     record {
-      ordered = Order.ordered-more _ _ _ l.loop.invariant.ordered _ (here c.before.before.before.before.before) c.before.before.if2.false (omega arith);
+      ordered = Order.ordered_more _ _ _ l.loop.invariant.ordered _ (here c.before.before.before.before.before) c.before.before.if2.false (omega arith);
       lows = lows c.before;
       highs = highs c;
     }

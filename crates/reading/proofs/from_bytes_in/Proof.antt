@@ -125,7 +125,7 @@ returns-3 c =
     let a = r.before.before.before.before.args in
     let e = sym (place p) ∙ ap found_of m.marked.given.1 in
     c.refused3.ensures
-    ∙ (ap (beside new_packet) (sym (Walk.finished-alone a.strict a.buf.now r.raw.given.0.0 _ (sym c.before.before.marker-alone.ensures ∙ c.before.if1.true)))
+    ∙ (ap (beside new_packet) (sym (Walk.finished_alone a.strict a.buf.now r.raw.given.0.0 _ (sym c.before.before.marker-alone.ensures ∙ c.before.if1.true)))
     ∙ answer_is p _ (Walk.ends _ _ _ _ _ _ _ p.before.loop.invariant _ _ e))
 
 packet-of-requires : tie.Need-packet-of-requires invariant-loop decreases-loop
@@ -141,8 +141,8 @@ returns-4 c =
     let r = p.before.before.before.before.before in
     let a = r.before.before.before.before.args in
     let e = sym (place p) ∙ ap found_of m.marked.given.1 in
-    ap (λ (q : Packet). beside new_packet (given q)) (c.packet-of.ensures ∙ Walk.packet-is _ _ _ _ _ _ _ p.before.loop.invariant r.raw.given.0.0 m.marked.given.0.0 _)
-    ∙ (ap (beside new_packet) (sym (Walk.finished-well a.strict a.buf.now r.raw.given.0.0 _ (sym c.before.before.marker-alone.ensures ∙ c.before.if1.false)))
+    ap (λ (q : Packet). beside new_packet (given q)) (c.packet-of.ensures ∙ Walk.packet_is _ _ _ _ _ _ _ p.before.loop.invariant r.raw.given.0.0 m.marked.given.0.0 _)
+    ∙ (ap (beside new_packet) (sym (Walk.finished_well a.strict a.buf.now r.raw.given.0.0 _ (sym c.before.before.marker-alone.ensures ∙ c.before.if1.false)))
     ∙ answer_is p _ (Walk.ends _ _ _ _ _ _ _ p.before.loop.invariant _ _ e))
 
 enum-known-r : tie.Need-enum-known-r invariant-loop decreases-loop

@@ -48,13 +48,13 @@ enum-known-len : tie.Need-enum-known-len invariant-loop decreases-loop
 enum-known-len c = search rules
 
 add-count : tie.Need-overflow-add-count invariant-loop decreases-loop
-add-count c = omega (arith, (turned c.before).few, (whole c.before).stands.inside, (whole c.before).next-is)
+add-count c = omega (arith, (turned c.before).few, (whole c.before).stands.inside, (whole c.before).next_is)
 
 add-bytes : tie.Need-overflow-add-bytes invariant-loop decreases-loop
-add-bytes c = omega (arith, (turned c.before).short, (whole c.before).stands.inside, (whole c.before).next-is)
+add-bytes c = omega (arith, (turned c.before).short, (whole c.before).stands.inside, (whole c.before).next_is)
 
 loop-less : tie.Need-loop-smaller invariant-loop decreases-loop
-loop-less c = omega (arith, c.before.before.before.before.loop-test.true, (whole c.before).stands.room, (whole c.before).next-is)
+loop-less c = omega (arith, c.before.before.before.before.loop-test.true, (whole c.before).stands.room, (whole c.before).next_is)
 
 loop-again : tie.Need-loop-preserved invariant-loop decreases-loop
 loop-again c = turned c.before

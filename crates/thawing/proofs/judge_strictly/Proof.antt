@@ -54,7 +54,7 @@ add-bytes c =
     let n = c.before in
     let l = n.before.before.before.before in
     let o = read n in
-    omega (arith, l.loop.invariant.short, strict_room _ _ _ _ _ _ _ l.loop.invariant _ _ n.before.before.before.loop-test.true o, o.whole.stands.inside, o.whole.next-is)
+    omega (arith, l.loop.invariant.short, strict_room _ _ _ _ _ _ _ l.loop.invariant _ _ n.before.before.before.loop-test.true o, o.whole.stands.inside, o.whole.next_is)
 
 chunk-count-requires : tie.Need-chunk-count-requires invariant-loop decreases-loop
 chunk-count-requires c κs = search rules
@@ -64,7 +64,7 @@ add-chunks c =
     let n = c.before.before in
     let l = n.before.before.before.before in
     let o = read n in
-    omega (arith, l.loop.invariant.chunked, c.chunk_count.ensures, few_chunks l.before.before.args.other n.len.given.0.0, strict_room _ _ _ _ _ _ _ l.loop.invariant _ _ n.before.before.before.loop-test.true o, o.whole.stands.inside, o.whole.next-is)
+    omega (arith, l.loop.invariant.chunked, c.chunk_count.ensures, few_chunks l.before.before.args.other n.len.given.0.0, strict_room _ _ _ _ _ _ _ l.loop.invariant _ _ n.before.before.before.loop-test.true o, o.whole.stands.inside, o.whole.next_is)
 
 loop-less : tie.Need-loop-smaller invariant-loop decreases-loop
 loop-less c =

@@ -38,7 +38,7 @@ enum-known-next : tie.Need-enum-known-next invariant-loop decreases-loop
 enum-known-next c = search rules
 
 loop-less : tie.Need-loop-smaller invariant-loop decreases-loop
-loop-less c = let o = found c.before in omega (arith, c.before.before.before.before.loop-test.true, o.stands.message.room, ap (λ (x : TimedFound). x.next) o.stands.value, o.next-is)
+loop-less c = let o = found c.before in omega (arith, c.before.before.before.before.loop-test.true, o.stands.message.room, ap (λ (x : TimedFound). x.next) o.stands.value, o.next_is)
 
 loop-again : tie.Need-loop-preserved invariant-loop decreases-loop
 loop-again c = let n = c.before in rest_turn _ _ _ _ n.before.before.before.before.loop.invariant _ _ _ n.before.before.before.loop-test.true (found n)
