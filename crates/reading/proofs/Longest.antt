@@ -16,7 +16,6 @@ use Rattle.packet.specs.declared.OptionRecord.{OptionRecord}
 use Rattle.option_reading.specs.Option.{Place, option, place_at, end}
 use Rattle.option_reading.proofs.Longest.{capped_place, place_capped}
 use Rattle.reading.specs.Options.{Tail, options, before}
-use Rattle.reading.specs.Reading.{longest}
 use Rattle.reading.proofs.Walk.{options_refused, options_ended, options_more}
 use Rattle.reading.proofs.Sound.{option_in, Stands, stands, given_place, inside_length}
 
