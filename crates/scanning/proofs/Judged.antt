@@ -28,7 +28,7 @@ use Rattle.reading.proofs.Accept.{records_found, found as follows}
 use Rattle.reading.proofs.Headed.{Opened, headed_opens}
 use Rattle.reading.proofs.Taken.{Taken, taken}
 use Rattle.reading.proofs.Walk.{ahead, ahead_none, ahead_before, options_refused, options_ended, options_full, options_more}
-use Rattle.flat.specs.Flat.{flat_head, flat_records, flat}
+use Rattle.flat.specs.Flat.{flat_head, flat_records}
 use Rattle.flat.proofs.Flat.{no_room, puts}
 use Rattle.scanning.specs.Scanning.{Span, last_end, span_of, judged, scanned, flat_read}
 use Rattle.scanning.proofs.Plain.{last_end_lem}
