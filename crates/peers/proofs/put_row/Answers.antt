@@ -1,0 +1,15 @@
+-- `put_row` is safe and ends.
+use Prim.Native.Nat.{◌-◌}
+use native.Mathlib.Omega.{arith}
+use Rattle.placing.proofs.Puts.{Putting, putting_start, putting_turn, putting_end}
+use Rattle.peers.specs.Text.{row, pieces}
+use Rattle.peers.proofs.Groups.{pieces_more, pieces_none}
+use borrow.Author.Rules.{rules}
+use Rattle.peers.proofs.put_row.Goals as goal
+
+pub loop-i-preserved : goal.loop-i-preserved
+loop-i-preserved c =
+    putting_turn c.loop-i.invariant (pieces_more _ _ _ c.loop-i.i (omega arith)) c.put_piece-next.ensures
+
+pub returns : goal.returns
+returns c = putting_end c.loop-i.invariant (pieces_none _ _ _ _ c.loop-i-test.false)
