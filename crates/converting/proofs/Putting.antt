@@ -4,7 +4,7 @@ use mathlib.Core.Path.{◌≡◌, sym, ap, subst, ◌∙◌}
 use mathlib.Core.List.{List, []}
 use native.Mathlib.Omega.{arith}
 use lib.ListN.{length, take, drop}
-use lib.Seq.{sets, length-sets, take_at}
+use lib.Seq.{length-sets, take_at}
 use Rattle.ground.proofs.Part.{put_front}
 use Rattle.refusal.specs.Answer.{refused}
 use Rattle.packet.specs.Limits.{full_size}
