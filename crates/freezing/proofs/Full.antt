@@ -8,7 +8,7 @@ use lib.ListN.{length}
 use borrow.Author.Tests.{ltb-false}
 use Rattle.ground.specs.Choice.{both}
 use Rattle.ground.proofs.Choice.{on, on_lt}
-use Rattle.refusal.specs.Answer.{Answer, given, onward, fitted}
+use Rattle.refusal.specs.Answer.{Answer, given, fitted}
 use Rattle.refusal.proofs.Answers.{Refusing, refusing_onward}
 use Rattle.packet.specs.Limits.{full_size}
 use Rattle.packet.specs.Packet.{Stores}
