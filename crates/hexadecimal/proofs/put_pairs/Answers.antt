@@ -8,6 +8,7 @@ use Rattle.hexadecimal.proofs.Digits.{digit_at, pairs_more, pairs_end}
 use Rattle.hexadecimal.proofs.put_pairs.Goals.{After-hex_digit_of, After-hex_digit_of-in-loop-i}
 use Rattle.hexadecimal.proofs.put_pairs.Goals as goal
 
+-- The digits that a pair is made of are digits.
 high : (c : After-hex_digit_of) → c.hex_digit_of.result < 16
 high c =
     let text = c.args.text.now in

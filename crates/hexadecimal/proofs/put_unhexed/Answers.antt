@@ -10,6 +10,7 @@ use borrow.Author.Rules.{rules}
 use Rattle.hexadecimal.proofs.put_unhexed.Goals.{Else-not-is_hex}
 use Rattle.hexadecimal.proofs.put_unhexed.Goals as goal
 
+-- Past the first test the text is hexadecimal.
 judged : (c : Else-not-is_hex) → is_hex c.args.text.now ≡ true
 judged c = sym c.is_hex.ensures ∙ c.if-not-is_hex.false
 
