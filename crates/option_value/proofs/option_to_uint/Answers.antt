@@ -11,6 +11,7 @@ use Rattle.option_value.proofs.Uints.{read_over, read_long, read_within}
 use Rattle.option_value.proofs.option_to_uint.Goals.{After-uint_length}
 use Rattle.option_value.proofs.option_to_uint.Goals as goal
 
+-- The number is read, and what isn't its shortest bytes is zeros.
 done : (c : After-uint_length) → Done c.args.encoded.now c.loop-i.value c.uint_length.result
 done c =
     reading_end (bytes_of c.args.encoded.now (λ i. (c.type_inv.encoded i).fits)) (omega arith) (omega arith) c.loop-i.invariant c.uint_length.ensures
