@@ -12,7 +12,7 @@ use lib.ListN.{get_or, drop}
 use borrow.Author.Tests.{eq-eqb, eqb-true}
 use Rattle.ground.specs.Part.{part}
 use Rattle.ground.proofs.Choice.{on, by_lt, both_true}
-use Rattle.planning.specs.Planner.{may_start, largest_up_to, largest, Largest}
+use Rattle.planning.specs.Planner.{may_start, largest_up_to, Largest}
 use Rattle.image.specs.Image.{alike, NoneHeld}
 use Rattle.image.proofs.Spans.{missing_so, so_missing}
 use Rattle.plan_checking.specs.Steps.{Width}
