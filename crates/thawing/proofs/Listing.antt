@@ -6,7 +6,7 @@ use native.Mathlib.Numerals.{add-one}
 use native.Mathlib.Omega.{arith}
 use lib.ListN.{length, set, length-append}
 use lib.Seq.{sets}
-use Rattle.refusal.specs.Answer.{given, refused}
+use Rattle.refusal.specs.Answer.{refused}
 use Rattle.refusal.proofs.Answers.{on_given}
 use Rattle.placing.specs.Put.{Put}
 use Rattle.placing.proofs.Puts.{Putting, putting_start, putting_turn, putting_end, puts_whole, whole_puts}

@@ -1,0 +1,7 @@
+-- `refused_from`: the rest of the stream decides before the datagram.
+use Rattle.thawing.proofs.Judging.{refused_datagram}
+use Rattle.thawing.proofs.refused_from.Goals as goal
+
+pub returns-in-Messages : goal.returns-in-Messages
+returns-in-Messages c =
+    refused_datagram _ _ _ _ c.requires.0 c.requires.1 _ c.in-Messages.ensures
