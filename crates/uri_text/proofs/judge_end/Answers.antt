@@ -1,0 +1,22 @@
+-- `judge_end` meets its contract: the rules in turn.
+use mathlib.Core.Path.{refl, sym, ◌∙◌}
+use borrow.Author.Rules.{rules}
+use borrow.Author.Tests.{lt-ltb, le-ltb, ne_eqb, eq-eqb}
+use Rattle.uri_text.specs.Judging.{ruled_by}
+use Rattle.uri_text.proofs.judge_end.Goals as goal
+
+pub returns-then-due-ne0 : goal.returns-then-due-ne0
+unfolding ruled_by
+returns-then-due-ne0 c = rw (ne_eqb _ 0 c.if-due-ne0.true) refl
+
+pub returns-then-len-gt255 : goal.returns-then-len-gt255
+unfolding ruled_by
+returns-then-len-gt255 c = rw (eq-eqb _ 0 c.if-due-ne0.false, lt-ltb 255 _ c.if-len-gt255.true) refl
+
+pub returns-then-is_dotted : goal.returns-then-is_dotted
+unfolding ruled_by
+returns-then-is_dotted c = rw (eq-eqb _ 0 c.if-due-ne0.false, le-ltb 255 _ c.if-len-gt255.false, sym c.is_dotted.ensures ∙ c.if-is_dotted.true) refl
+
+pub returns : goal.returns
+unfolding ruled_by
+returns c = rw (eq-eqb _ 0 c.if-due-ne0.false, le-ltb 255 _ c.if-len-gt255.false, sym c.is_dotted.ensures ∙ c.if-is_dotted.false) refl
