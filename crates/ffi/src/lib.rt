@@ -19,7 +19,7 @@ use refusal::{Outcome, Refusal, Written};
 use scanning::Extent;
 
 // The version of the flat form.
-pub extern "C" fn rickwinter_version() -> u32
+pub fn rickwinter_version() -> u32
     ensures { result ≡ 2 }
 {
     2
@@ -27,7 +27,7 @@ pub extern "C" fn rickwinter_version() -> u32
 
 // Reads a datagram. 0: the packet's flat form stands at the start of the output. Else the refusal's number, and the output
 // is as it was; 12 where it is too short.
-pub extern "C" fn rickwinter_v2_read(strict: bool, datagram: &[u8], out: &mut [u32]) -> u32
+pub fn rickwinter_v2_read(strict: bool, datagram: &[u8], out: &mut [u32]) -> u32
     ensures value { result ≡ number_in (handed (length out.old) (reading strict datagram.now)) }
     ensures out_after { out.new ≡ after (handed (length out.old) (reading strict datagram.now)) 0 (flat (packet_of (reading strict datagram.now))) out.old }
 {
@@ -37,7 +37,7 @@ pub extern "C" fn rickwinter_v2_read(strict: bool, datagram: &[u8], out: &mut [u
 // Writes the packet of a flat form, which may stand at the start of a longer slice, over its two stores and without a limit.
 // The length of what stands at the start of the output; or 4294967296 and the refusal's number, and the output is as it was.
 // A store over 70,000 bytes, either of them, gives 10, and then what is no packet's flat form 11.
-pub extern "C" fn rickwinter_v2_write<'a>(
+pub fn rickwinter_v2_write<'a>(
     strict: bool,
     packet: &[u32],
     datagram: &'a [u8],
@@ -52,7 +52,7 @@ pub extern "C" fn rickwinter_v2_write<'a>(
 
 // Reads a datagram and writes its packet again, without a limit. The length of what stands at the start of the output; or
 // 4294967296 and the refusal's number, and the output is as it was.
-pub extern "C" fn rickwinter_copy(strict: bool, datagram: &[u8], out: &mut [u8]) -> u64
+pub fn rickwinter_copy(strict: bool, datagram: &[u8], out: &mut [u8]) -> u64
     ensures value { result ≡ length_in (copying strict (length out.old) (stores datagram.now []) (reading strict datagram.now)) }
     ensures out_after { out.new ≡ after (copying strict (length out.old) (stores datagram.now []) (reading strict datagram.now)) 0 (bytes_written strict (stores datagram.now []) (packet_of (reading strict datagram.now))) out.old }
 {
