@@ -7,7 +7,6 @@ use Rattle.rfc.specs.Message.{Message, Opt, extension_of, option_layout, options
 use Rattle.code_text.specs.CodeText.{code_text}
 use Rattle.decimal.specs.Decimal.{decimal}
 use Rattle.decimal.proofs.Laws.{decimal_size}
-use Rattle.hexadecimal.specs.Hex.{hex}
 use Rattle.hexadecimal.proofs.Laws.{hex_size}
 use Rattle.lines.specs.Lines.{space, head, token, option, payload, refusal, numbered, bytes_line, head_line, option_line, option_lines, message_lines, refusal_line}
 
