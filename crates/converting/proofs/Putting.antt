@@ -18,7 +18,7 @@ use Rattle.stream.specs.Answers.{step_read}
 use Rattle.stream.proofs.Complete.{message_some}
 use Rattle.stream.proofs.Left.{Left, left_start, left_none, First, left_first}
 use Rattle.thawing.specs.Message.{NextMessage}
-use Rattle.thawing.proofs.Message.{taken, never-refused}
+use Rattle.thawing.proofs.Message.{taken, never_refused}
 use Rattle.converting.specs.Converting.{Convertible}
 
 module _ (from to : Form) (s : List ℕ) where
@@ -48,7 +48,7 @@ module _ (from to : Form) (s : List ℕ) where
 
       -- The step isn't refused.
       pub put_some {ℓ} : {C : Type ℓ} (r : Step) (newer : List ℕ) (k : ℕ) → NextMessage from s at array 0 r newer → step_read r ≡ refused k → C
-      put_some r newer k n e = never-refused from s at w.rest first array 0 fits r newer k n e
+      put_some r newer k n e = never_refused from s at w.rest first array 0 fits r newer k n e
 
       -- The message that the step gave: its datagram at the front of the array, its peer in the stream.
       pub record Given (len next : ℕ) (newer : List ℕ) : Type 0 where

@@ -16,7 +16,7 @@ use Rattle.packet.specs.declared.Packet.{Packet}
 use Rattle.packet.specs.declared.OptionRecord.{OptionRecord}
 use Rattle.packet.specs.declared.Range.{Range}
 use Rattle.judging.specs.Judge.{falling, misordered}
-use Rattle.editing.specs.Numbered.{upToBy, insertedBy, removedBy}
+use Rattle.editing.specs.Numbered.{up_to_by, inserted_by, removed_by}
 use Rattle.splicing.specs.Splice.{record_of}
 use Rattle.editing.specs.Edit.{up_to, inserted, removed, token_set, payload_set, added, option_set, cleared, cleared_all}
 use Rattle.editing.specs.Message.{with_options, with_token, with_payload, option_added, options_cleared, options_set}
@@ -31,18 +31,18 @@ map_pick f false xs ys = refl
 
 module _ (s : Stores) where
   -- The options of records that were inserted or removed are those of the records, inserted or removed.
-  map_up_to : (n : ℕ) (rs : List OptionRecord) → up_to n rs ≡ upToBy (λ o. o.number) n (map (option_of s) rs)
+  map_up_to : (n : ℕ) (rs : List OptionRecord) → up_to n rs ≡ up_to_by (λ o. o.number) n (map (option_of s) rs)
   map_up_to n [] = refl
   map_up_to n (r ∷ rs) = ap (either (leb r.number n)) (map_up_to n rs)
 
   pub map_inserted : (n : ℕ) (new rs : List OptionRecord)
-      → map (option_of s) (inserted n new rs) ≡ insertedBy (λ o. o.number) n (map (option_of s) new) (map (option_of s) rs)
+      → map (option_of s) (inserted n new rs) ≡ inserted_by (λ o. o.number) n (map (option_of s) new) (map (option_of s) rs)
   map_inserted n new [] = refl
   map_inserted n new (r ∷ rs) =
       map_pick (option_of s) (up_to n (r ∷ rs)) (r ∷ inserted n new rs) (new ++ (r ∷ rs))
       ∙ (rw (map-append (option_of s) new (r ∷ rs), map_inserted n new rs, map_up_to n rs) refl)
 
-  pub map_removed : (n : ℕ) (rs : List OptionRecord) → map (option_of s) (removed n rs) ≡ removedBy (λ o. o.number) n (map (option_of s) rs)
+  pub map_removed : (n : ℕ) (rs : List OptionRecord) → map (option_of s) (removed n rs) ≡ removed_by (λ o. o.number) n (map (option_of s) rs)
   map_removed n [] = refl
   map_removed n (r ∷ rs) =
       map_pick (option_of s) (eqb r.number n) (removed n rs) (r ∷ removed n rs) ∙ (rw (map_removed n rs) refl)

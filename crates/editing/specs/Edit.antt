@@ -9,7 +9,7 @@ use Rattle.packet.specs.declared.OptionRecord.{OptionRecord}
 use Rattle.packet.specs.declared.Range.{Range}
 use Rattle.judging.specs.Judge.{misordered}
 use Rattle.splicing.specs.Splice.{packet_with, with_records, roomy, record_of}
-use Rattle.editing.specs.Numbered.{upToBy, insertedBy, removedBy}
+use Rattle.editing.specs.Numbered.{up_to_by, inserted_by, removed_by}
 
 -- Every edit of a packet with over 128 records or falling numbers gives 11.
 abbrev pub orderly : Packet → Answer Packet → Answer Packet
@@ -17,15 +17,15 @@ orderly p edit = pick (misordered p) (refused 11) edit
 
 -- Some record has the number or a lower one.
 abbrev pub up_to : ℕ → List OptionRecord → Bool
-up_to n rs = upToBy (λ r. r.number) n rs
+up_to n rs = up_to_by (λ r. r.number) n rs
 
 -- New records of a number, after the last of the same or a lower number.
 abbrev pub inserted : ℕ → List OptionRecord → List OptionRecord → List OptionRecord
-inserted n new rs = insertedBy (λ r. r.number) n new rs
+inserted n new rs = inserted_by (λ r. r.number) n new rs
 
 -- All records but those of a number.
 abbrev pub removed : ℕ → List OptionRecord → List OptionRecord
-removed n rs = removedBy (λ r. r.number) n rs
+removed n rs = removed_by (λ r. r.number) n rs
 
 -- The records of ranges in the place of all records of a number, in the ranges' order.
 abbrev pub replaced : ℕ → List Range → List OptionRecord → List OptionRecord

@@ -4,16 +4,16 @@ use Rattle.ground.specs.Choice.{pick, either}
 
 module _ {A : Type 0} (number : A → ℕ) where
   -- Something has the number or a lower one.
-  abbrev pub upToBy : ℕ → List A → Bool
-  upToBy n [] = false
-  upToBy n (x ∷ xs) = either (leb (number x) n) (upToBy n xs)
+  abbrev pub up_to_by : ℕ → List A → Bool
+  up_to_by n [] = false
+  up_to_by n (x ∷ xs) = either (leb (number x) n) (up_to_by n xs)
 
   -- New ones of a number stand after the last of the same or a lower number.
-  abbrev pub insertedBy : ℕ → List A → List A → List A
-  insertedBy n new [] = new
-  insertedBy n new (x ∷ xs) = pick (upToBy n (x ∷ xs)) (x ∷ insertedBy n new xs) (new ++ (x ∷ xs))
+  abbrev pub inserted_by : ℕ → List A → List A → List A
+  inserted_by n new [] = new
+  inserted_by n new (x ∷ xs) = pick (up_to_by n (x ∷ xs)) (x ∷ inserted_by n new xs) (new ++ (x ∷ xs))
 
   -- All but those of a number.
-  abbrev pub removedBy : ℕ → List A → List A
-  removedBy n [] = []
-  removedBy n (x ∷ xs) = pick (eqb (number x) n) (removedBy n xs) (x ∷ removedBy n xs)
+  abbrev pub removed_by : ℕ → List A → List A
+  removed_by n [] = []
+  removed_by n (x ∷ xs) = pick (eqb (number x) n) (removed_by n xs) (x ∷ removed_by n xs)

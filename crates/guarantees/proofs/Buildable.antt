@@ -104,8 +104,8 @@ store_short s Edits e = ltb-false 70000 (length s.edits) (neither (ltb 70000 (le
 
 module _ (s : Stores) (p : Packet) where
   -- The parts that a packet means.
-  abbrev parts-of : Parts
-  parts-of = record { header = p.header; token = (meaning s p).token; options = (meaning s p).options; payload = (meaning s p).payload }
+  abbrev parts_of : Parts
+  parts_of = record { header = p.header; token = (meaning s p).token; options = (meaning s p).options; payload = (meaning s p).payload }
 
   module _ (g : Good (lengths_of s) p) where
     -- What strict mode asks of the packet is what it asks of the parts.
@@ -184,23 +184,23 @@ module _ (s : Stores) (p : Packet) where
     fill : Filled first headed (meaning s p).options adds.0 adds.1
     fill = filled (meaning s p).options first headed adds.0 adds.1 adds.2
 
-    abbrev last-bytes : List ℕ
-    last-bytes = payload_layout (sent_by adds.0.empty (bytes_of s p.payload))
+    abbrev last_bytes : List ℕ
+    last_bytes = payload_layout (sent_by adds.0.empty (bytes_of s p.payload))
 
     abbrev final : List ℕ
-    final = sets adds.1 adds.0.at last-bytes
+    final = sets adds.1 adds.0.at last_bytes
 
-    ends_given : ending adds.0 (bytes_of s p.payload) (length adds.1) ≡ given (adds.0.at + length last-bytes)
+    ends_given : ending adds.0 (bytes_of s p.payload) (length adds.1) ≡ given (adds.0.at + length last_bytes)
     unfolding ending
     ends_given =
         let short : length (bytes_of s p.payload) ≤ 70000 = omega (arith, range_exactly s p.payload sound.payload, sound.payload, store_short s p.payload.home fits.short) in
         let carries : both adds.0.empty (both adds.0.strict (ltb 0 (length (bytes_of s p.payload)))) ≡ false = rw (fill.empty, fill.strict) (no_payload sound strict passes) in
-        let size : length last-bytes ≡ length (payload_layout (sent_by (empty_in strict p.header.code) (bytes_of s p.payload))) = ap (λ (b : Bool). length (payload_layout (sent_by b (bytes_of s p.payload)))) fill.empty in
-        let enough : adds.0.at + length last-bytes ≤ length adds.1 =
+        let size : length last_bytes ≡ length (payload_layout (sent_by (empty_in strict p.header.code) (bytes_of s p.payload))) = ap (λ (b : Bool). length (payload_layout (sent_by b (bytes_of s p.payload)))) fill.empty in
+        let enough : adds.0.at + length last_bytes ≤ length adds.1 =
         omega (arith, room, size, fill.put.next, put_length _ _ _ _ _ fill.put, head_length p.header (bytes_of s p.token), length-sets old 0 (head_layout p.header (bytes_of s p.token))) in
-        rw (le-ltb 70000 (length (bytes_of s p.payload)) short, carries, le-ltb (length adds.1) (adds.0.at + length last-bytes) enough)
+        rw (le-ltb 70000 (length (bytes_of s p.payload)) short, carries, le-ltb (length adds.1) (adds.0.at + length last_bytes) enough)
 
-    runs : Run strict parts-of old (adds.0.at + length last-bytes) final
+    runs : Run strict parts_of old (adds.0.at + length last_bytes) final
     runs =
         record {
           first = first;
@@ -221,7 +221,7 @@ pub builds_all_written : BuildsAllWritten
 builds_all_written strict parts p s h e old r new promise n is =
     let w : writing strict Unlimited (length old) s p ≡ given n = sym promise.answer ∙ ap written is in
     let run = runs s p strict old n w in
-    let same = (builds_as_writing strict (parts-of s p) old _ _ run p s refl refl).1 r new promise n is in
-    let parts_are : parts-of s p ≡ parts =
+    let same = (builds_as_writing strict (parts_of s p) old _ _ run p s refl refl).1 r new promise n is in
+    let parts_are : parts_of s p ≡ parts =
     λ i. record { header = h i; token = ap (λ (m : Message). m.token) e i; options = ap (λ (m : Message). m.options) e i; payload = ap (λ (m : Message). m.payload) e i } in
-    subst (λ (q : Parts). Run strict q old n new) parts_are (moved strict (parts-of s p) old _ _ n new run same.0 same.1)
+    subst (λ (q : Parts). Run strict q old n new) parts_are (moved strict (parts_of s p) old _ _ n new run same.0 same.1)

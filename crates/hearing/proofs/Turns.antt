@@ -69,21 +69,21 @@ module _ (room before : ℕ) (s : List ℕ) (fresh : List Arrival) (m : Arrival)
   abbrev after : Answer Verdict → Calls
   after a = calls_from (room - 1) m.time (leaving a m s) ms
 
-  whole-turn :
+  whole_turn :
       ((t : List ℕ) (g : List Arrival) → Holds m.time t g → (calls_from (room - 1) m.time t ms).outcome ≡ given tt → Whole m.time t g ms (calls_from (room - 1) m.time t ms))
       → (a : Answer Verdict) → calling room before s m ≡ a → (further a s (after a)).outcome ≡ given tt → Whole before s fresh (m ∷ ms) (further a s (after a))
-  whole-turn next (refused n) c e = not_refused (sym e)
-  whole-turn next (given v) c e =
+  whole_turn next (refused n) c e = not_refused (sym e)
+  whole_turn next (given v) c e =
       let g = goes room before s fresh m v k f c in
       let w = next (leaving (given v) m s) (fresh_after fresh m) g.holds e in
       record { listing = one_more g.is w.listing; holds = w.holds; behind = w.behind ∙ g.behind }
 
-  ended-turn :
+  ended_turn :
       (n : ℕ)
       → ((t : List ℕ) (g : List Arrival) → Holds m.time t g → (calls_from (room - 1) m.time t ms).outcome ≡ refused n → Ended (room - 1) m.time t g ms n (calls_from (room - 1) m.time t ms))
       → (a : Answer Verdict) → calling room before s m ≡ a → (further a s (after a)).outcome ≡ refused n → Ended room before s fresh (m ∷ ms) n (further a s (after a))
   unfolding calls_from
-  ended-turn n next (refused j) c e =
+  ended_turn n next (refused j) c e =
       let none : room - 0 ≡ room = omega arith in
       record {
         front = [];
@@ -95,7 +95,7 @@ module _ (room before : ℕ) (s : List ℕ) (fresh : List Arrival) (m : Arrival)
         listing = refl;
         left = refl;
       }
-  ended-turn n next (given v) c e =
+  ended_turn n next (given v) c e =
       let g = goes room before s fresh m v k f c in
       let w = next (leaving (given v) m s) (fresh_after fresh m) g.holds e in
       let less : room - 1 - length w.front ≡ room - suc (length w.front) = omega arith in
@@ -115,14 +115,14 @@ pub whole : (room before : ℕ) (s : List ℕ) (fresh ms : List Arrival) → Hol
 unfolding calls_from
 whole room before s fresh [] k f e = record { listing = refl; holds = k; behind = refl }
 whole room before s fresh (m ∷ ms) k f e =
-    whole-turn room before s fresh m ms k f.0 (λ t g h x. whole (room - 1) m.time t g ms h f.1 x) (calling room before s m) refl e
+    whole_turn room before s fresh m ms k f.0 (λ t g h x. whole (room - 1) m.time t g ms h f.1 x) (calling room before s m) refl e
 
 -- A refusal ends the row, with what the messages before left.
 pub ended : (room before : ℕ) (s : List ℕ) (fresh ms : List Arrival) (n : ℕ) → Holds before s fresh → AllFit ms → (calls_from room before s ms).outcome ≡ refused n → Ended room before s fresh ms n (calls_from room before s ms)
 unfolding calls_from
 ended room before s fresh [] n k f e = not_refused e
 ended room before s fresh (m ∷ ms) n k f e =
-    ended-turn room before s fresh m ms k f.0 n (λ t g h x. ended (room - 1) m.time t g ms n h f.1 x) (calling room before s m) refl e
+    ended_turn room before s fresh m ms k f.0 n (λ t g h x. ended (room - 1) m.time t g ms n h f.1 x) (calling room before s m) refl e
 
 -- Calls in two rows: the second goes on where the first ended, with the places that it left in the listing.
 abbrev pub followed : Calls → Calls → Calls

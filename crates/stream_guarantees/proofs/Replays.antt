@@ -288,8 +288,8 @@ module _ (s table listing : List ℕ) (r : Replayed) (left listed : List ℕ) (p
 
 -- A replay that begins: its calls, over the cleared table.
 module _ (s : List ℕ) (small : Bytes s) (table listing : List ℕ) (r : Replayed) (left listed : List ℕ) (promise : Replays s table listing r left listed) where
-  abbrev calls-of : List Timed → Calls
-  calls-of l = calls_from (length listing) 0 (cleared table) (arrivals_of l)
+  abbrev calls_of : List Timed → Calls
+  calls_of l = calls_from (length listing) 0 (cleared table) (arrivals_of l)
 
   module _ (l : List Timed) (b : Begins s table l) where
     traced_so : traced_strictly s ≡ given l
@@ -299,7 +299,7 @@ module _ (s : List ℕ) (small : Bytes s) (table listing : List ℕ) (r : Replay
     unfolding begins
     begins_with = rw (traced_so, le-ltb (length table) table_size b.size) refl
 
-    ran : Ran (calls-of l) listing (outcome r.outcome) r.count left listed
+    ran : Ran (calls_of l) listing (outcome r.outcome) r.count left listed
     unfolding replaying
     ran = subst (λ (a : Answer (List Timed)). Ran (replayed_from a (length listing) table) listing (outcome r.outcome) r.count left listed) begins_with promise
 
@@ -309,18 +309,18 @@ module _ (s : List ℕ) (small : Bytes s) (table listing : List ℕ) (r : Replay
     fit : AllFit (arrivals_of l)
     fit = all_fit l b.trace.timed (on_given AllBytes (traced s) l (traced_bytes (form_of s) s small (length s) 0) (traced_of s l traced_so))
 
-    is_done : (r.outcome ≡ Done) → (calls-of l).outcome ≡ given tt
+    is_done : (r.outcome ≡ Done) → (calls_of l).outcome ≡ given tt
     is_done e = sym ran.outcome ∙ ap outcome e
 
-    is_refused : (e : Refusal) → r.outcome ≡ Refused e → (calls-of l).outcome ≡ refused (number_of e)
+    is_refused : (e : Refusal) → r.outcome ≡ Refused e → (calls_of l).outcome ≡ refused (number_of e)
     is_refused e i = sym ran.outcome ∙ ap outcome i
 
   -- What messages leave that aren't refused.
-  leaves : (front : List Timed) → table_size ≤ length table → AllFit (arrivals_of front) → (calls-of front).outcome ≡ given tt
-      → r.count ≡ length (calls-of front).listing → left ≡ (calls-of front).table → listed ≡ sets listing 0 (calls-of front).listing
+  leaves : (front : List Timed) → table_size ≤ length table → AllFit (arrivals_of front) → (calls_of front).outcome ≡ given tt
+      → r.count ≡ length (calls_of front).listing → left ≡ (calls_of front).table → listed ≡ sets listing 0 (calls_of front).listing
       → Leaves front table listing r.count left listed
   leaves front size f e n t v =
-      let d : Calls = calls-of front in
+      let d : Calls = calls_of front in
       let w = whole (length listing) 0 (cleared table) [] (arrivals_of front) (none_held table size) f e in
       let o = in_order (length listing) 0 (cleared table) (arrivals_of front) e in
       let k : length d.listing ≡ length front =
@@ -338,19 +338,19 @@ module _ (s : List ℕ) (small : Bytes s) (table listing : List ℕ) (r : Replay
     front_fits : AllFit (arrivals_of x.front)
     front_fits = fit_front x.front (x.at ∷ x.rest) (subst (λ (v : List Timed). AllFit (arrivals_of v)) x.split (fit l b))
 
-    front_done : (calls-of x.front).outcome ≡ given tt
+    front_done : (calls_of x.front).outcome ≡ given tt
     front_done = all_done (length listing) 0 (cleared table) [] (arrivals_of x.front) (holds_none l b) front_fits x.none
 
-    stopped : calls-of l ≡ record { listing = (calls-of x.front).listing; table = (calls-of x.front).table; outcome = refused (number_of e) }
+    stopped : calls_of l ≡ record { listing = (calls_of x.front).listing; table = (calls_of x.front).table; outcome = refused (number_of e) }
     stopped =
-        let d : Calls = calls-of x.front in
+        let d : Calls = calls_of x.front in
         let f : List Arrival = arrivals_of x.front in
         let n : length f ≡ length x.front = length-map x.front arrival_of in
         let w = whole (length listing) 0 (cleared table) [] f (holds_none l b) front_fits front_done in
         let c : calling (length listing - length f) (last_time 0 f) d.table (arrival_of x.at) ≡ refused (number_of e) =
         agrees_in (length listing - length f) (last_time 0 f) d.table (fresh f) (arrival_of x.at) w.holds
         ∙ why_told (length listing - length f) (last_time 0 f) (fresh f) (arrival_of x.at) (number_of e) (rw n x.why) in
-        ap calls-of x.split
+        ap calls_of x.split
         ∙ (ap (calls_from (length listing) 0 (cleared table)) (map-append arrival_of x.front (x.at ∷ x.rest))
         ∙ (in_two (length listing) 0 (cleared table) f (arrivals_of (x.at ∷ x.rest)) front_done
         ∙ (ap (followed d) (refused_first (length listing - length f) (last_time 0 f) d.table (arrival_of x.at) (arrivals_of x.rest) (number_of e) c)
@@ -367,7 +367,7 @@ module _ (s : List ℕ) (small : Bytes s) (table listing : List ℕ) (r : Replay
 
   stops_at : (l : List Timed) (b : Begins s table l) (e : Refusal) → r.outcome ≡ Refused e → Stops (length listing) l e
   stops_at l b e i =
-      let y : Ended (length listing) 0 (cleared table) [] (arrivals_of l) (number_of e) (calls-of l) =
+      let y : Ended (length listing) 0 (cleared table) [] (arrivals_of l) (number_of e) (calls_of l) =
       ended (length listing) 0 (cleared table) [] (arrivals_of l) (number_of e) (holds_none l b) (fit l b) (is_refused l b e i) in
       let p = split l y.front y.at y.rest y.split in
       let f : AllFit (arrivals_of p.first) = fit_front p.first (p.one ∷ p.others) (subst (λ (v : List Timed). AllFit (arrivals_of v)) p.is (fit l b)) in
@@ -396,7 +396,7 @@ module _ (s : List ℕ) (small : Bytes s) (table listing : List ℕ) (r : Replay
       let d : calls_from (length listing) 0 (cleared table) f ≡ record { listing = letters; table = last; outcome = given tt } =
       ap (λ (t : List ℕ). calls_from (length listing) 0 t f) (sym m) ∙ as_calls (length listing) 0 f mid letters last (omega arith) x in
       let more : Calls = calls_from (length listing - length f) (last_time 0 f) last (arrivals_of rest) in
-      let c : calls-of (front ++ rest) ≡ record { listing = letters ++ more.listing; table = more.table; outcome = more.outcome } =
+      let c : calls_of (front ++ rest) ≡ record { listing = letters ++ more.listing; table = more.table; outcome = more.outcome } =
       ap (calls_from (length listing) 0 (cleared table)) (map-append arrival_of front rest)
       ∙ (in_two (length listing) 0 (cleared table) f (arrivals_of rest) (ap (λ (y : Calls). y.outcome) d)
       ∙ ap (λ (y : Calls). followed y (calls_from (length listing - length f) (last_time 0 f) y.table (arrivals_of rest))) d) in

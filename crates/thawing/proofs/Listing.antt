@@ -21,7 +21,7 @@ use Rattle.stream.proofs.Complete.{message_some}
 use Rattle.stream.proofs.Left.{Left, left_start, left_none, First, left_first}
 use Rattle.thawing.specs.Thawing.{Listing, entries}
 use Rattle.thawing.specs.Message.{NextMessage}
-use Rattle.thawing.proofs.Message.{Took, taken, never-refused}
+use Rattle.thawing.proofs.Message.{Took, taken, never_refused}
 
 -- Three numbers for each message.
 pub entries_length : (form : Form) (at to : ℕ) (l : List Frozen) → length (entries form at to l) ≡ 3 * length l
@@ -122,5 +122,5 @@ module _ (form : Form) (s : List ℕ) where
           }
 
       -- The step isn't refused.
-      pub list-some {ℓ} : {C : Type ℓ} (r : Step) (newOut : List ℕ) (k : ℕ) → NextMessage form s at out to r newOut → step_read r ≡ refused k → C
-      list-some r newOut k n e = never-refused form s at w.rest first out to list_room r newOut k n e
+      pub list_some {ℓ} : {C : Type ℓ} (r : Step) (newOut : List ℕ) (k : ℕ) → NextMessage form s at out to r newOut → step_read r ≡ refused k → C
+      list_some r newOut k n e = never_refused form s at w.rest first out to list_room r newOut k n e

@@ -90,8 +90,8 @@ module _ (form : Form) (s : List ℕ) (at : ℕ) (rest : List Frozen) (f : First
   took : next_in form s at (length old) to ≡ given (record { len = length f.message.datagram; next = at + length (message_of form f.message) })
   took = rw (f.found, le-ltb (length old) (to + length f.message.datagram) room) refl
 
-  pub never-refused {ℓ} : {C : Type ℓ} (r : Step) (new : List ℕ) (k : ℕ) → NextMessage form s at old to r new → step_read r ≡ refused k → C
-  never-refused r new k n e = not_refused (sym took ∙ (sym n.answer ∙ e))
+  pub never_refused {ℓ} : {C : Type ℓ} (r : Step) (new : List ℕ) (k : ℕ) → NextMessage form s at old to r new → step_read r ≡ refused k → C
+  never_refused r new k n e = not_refused (sym took ∙ (sym n.answer ∙ e))
 
   -- What was taken.
   pub record Took (len next : ℕ) (new : List ℕ) : Type 0 where

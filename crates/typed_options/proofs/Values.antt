@@ -14,7 +14,7 @@ use Rattle.packet.specs.declared.Packet.{Packet}
 use Rattle.packet.specs.declared.OptionRecord.{OptionRecord}
 use Rattle.packet.specs.Meaning.{meaning, option_of}
 use Rattle.splicing.specs.Splice.{record_of}
-use Rattle.editing.specs.Numbered.{removedBy}
+use Rattle.editing.specs.Numbered.{removed_by}
 use Rattle.editing.specs.Edit.{removed, cleared}
 use Rattle.editing.specs.Message.{option_added, options_set}
 use Rattle.editing.proofs.Meaning.{meaning_added, meaning_set, map_removed}
@@ -69,7 +69,7 @@ module _ (d old : List ℕ) (start n : ℕ) (p q : Packet) where
         let s = stored_observe old start n p q e in
         let token = apart_bytes old start (uint 4 n) d p.token u.token in
         let payload = apart_bytes old start (uint 4 n) d p.payload u.payload in
-        let others : removedBy (λ o. o.number) 6 (map (option_of then) (records_of p)) ≡ removedBy (λ o. o.number) 6 (map (option_of was) (records_of p)) =
+        let others : removed_by (λ o. o.number) 6 (map (option_of then) (records_of p)) ≡ removed_by (λ o. o.number) 6 (map (option_of was) (records_of p)) =
         sym (map_removed then 6 (records_of p)) ∙ (apart_options old start (uint 4 n) d (removed 6 (records_of p)) u.options ∙ map_removed was 6 (records_of p)) in
         meaning_set then p q 6 (range_at start (uint 4 n) ∷ []) s.made
         ∙ (rw (own_bytes old start (uint 4 n) s.inside, token, payload, others) refl)

@@ -2,7 +2,7 @@
 use mathlib.Core.Path.{ap}
 use native.Mathlib.Omega.{arith}
 use Rattle.stream.specs.Answers.{step_read}
-use Rattle.thawing.proofs.Listing.{list_start, list_ends, list_next, list-some}
+use Rattle.thawing.proofs.Listing.{list_start, list_ends, list_next, list_some}
 use Rattle.thawing.proofs.list_messages.Goals as goal
 
 pub loop-at-init : goal.loop-at-init
@@ -10,11 +10,11 @@ loop-at-init c = rw c.requires.are (list_start _ _ _ _ c.requires)
 
 pub returns-in-Refused-clause-list_after : goal.returns-in-Refused-clause-list_after
 returns-in-Refused-clause-list_after c =
-    list-some _ _ _ _ _ _ _ _ _ _ c.loop-at.invariant c.loop-at-test.true _ _ _ c.next_message.ensures (ap step_read c.in-Refused.is)
+    list_some _ _ _ _ _ _ _ _ _ _ c.loop-at.invariant c.loop-at-test.true _ _ _ c.next_message.ensures (ap step_read c.in-Refused.is)
 
 pub returns-in-Refused-clause-out_after : goal.returns-in-Refused-clause-out_after
 returns-in-Refused-clause-out_after c =
-    list-some _ _ _ _ _ _ _ _ _ _ c.loop-at.invariant c.loop-at-test.true _ _ _ c.next_message.ensures (ap step_read c.in-Refused.is)
+    list_some _ _ _ _ _ _ _ _ _ _ c.loop-at.invariant c.loop-at-test.true _ _ _ c.next_message.ensures (ap step_read c.in-Refused.is)
 
 pub loop-at-smaller : goal.loop-at-smaller
 loop-at-smaller c = omega (arith, c.loop-at-test.true, (list_next _ _ _ _ _ _ _ _ _ _ c.loop-at.invariant c.loop-at-test.true _ _ _ _ c.in-Message.is c.next_message.ensures).onwards)
