@@ -1,6 +1,5 @@
 -- `index_of_code` is safe and ends: each turn takes a code.
 use Prim.Native.Nat.{◌-◌, ◌≤◌}
-use native.Mathlib.Omega.{arith}
 use Rattle.class_words.proofs.index_of_code.Given as goal
 
 abbrev pub invariant-loop-i : goal.invariant-loop-i
