@@ -1,6 +1,5 @@
 -- `ranges_at` is safe and ends: each turn counts a range, of which a line has fewer than bytes.
 use Prim.Native.Nat.{◌-◌, ◌≤◌}
-use native.Mathlib.Omega.{arith}
 use lib.ListN.{length}
 use Rattle.edit_steps.proofs.values.ranges_at.Given as goal
 
