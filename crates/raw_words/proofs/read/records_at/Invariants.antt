@@ -1,6 +1,5 @@
 -- `records_at` is safe and ends: each turn reads a record.
 use Prim.Native.Nat.{◌-◌, ◌≤◌}
-use native.Mathlib.Omega.{arith}
 use Rattle.raw_words.proofs.read.records_at.Given as goal
 
 abbrev pub invariant-loop-i : goal.invariant-loop-i

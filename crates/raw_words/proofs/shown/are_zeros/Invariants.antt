@@ -1,6 +1,5 @@
 -- `are_zeros` is safe and ends: each turn takes a byte.
 use Prim.Native.Nat.{◌-◌, ◌≤◌}
-use native.Mathlib.Omega.{arith}
 use lib.ListN.{length}
 use Rattle.raw_words.proofs.shown.are_zeros.Given as goal
 

@@ -1,6 +1,5 @@
 -- `filled_of` is safe and ends: each turn takes a record.
 use Prim.Native.Nat.{◌-◌, ◌≤◌}
-use native.Mathlib.Omega.{arith}
 use Rattle.raw_words.proofs.shown.filled_of.Given as goal
 
 abbrev pub invariant-loop-i : goal.invariant-loop-i
