@@ -1,7 +1,6 @@
 -- `first_change` is safe and ends.
 use Prim.Native.Nat.{◌-◌, ◌≤◌}
 use lib.ListN.{length}
-use borrow.Author.Rules.{rules}
 use Rattle.replay_requests.proofs.heard.first_change.Given as goal
 
 abbrev pub invariant-loop-i : goal.invariant-loop-i

@@ -1,6 +1,5 @@
 -- `used` is safe and ends: the end counts down.
 use Prim.Native.Nat.{◌≤◌}
-use borrow.Author.Rules.{rules}
 use Rattle.replay_requests.proofs.replayed.used.Given as goal
 
 abbrev pub invariant-loop-end : goal.invariant-loop-end
