@@ -1,7 +1,6 @@
 -- `are_listed_before` is safe and ends.
 use Prim.Native.Nat.{◌-◌, ◌≤◌}
 use lib.ListN.{length}
-use borrow.Author.Rules.{rules}
 use Rattle.stream_requests.proofs.thawed.are_listed_before.Given as goal
 
 abbrev pub invariant-loop-i : goal.invariant-loop-i
