@@ -1,6 +1,5 @@
 -- `past` is safe and ends: each turn takes a byte of the text.
 use Prim.Native.Nat.{◌-◌, ◌≤◌}
-use native.Mathlib.Omega.{arith}
 use lib.ListN.{length}
 use Rattle.words.proofs.line.past.Given as goal
 

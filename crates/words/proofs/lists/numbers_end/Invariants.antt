@@ -1,6 +1,5 @@
 -- `numbers_end` is safe and ends: each turn counts a number, of which a line has fewer than bytes.
 use Prim.Native.Nat.{◌-◌, ◌≤◌}
-use native.Mathlib.Omega.{arith}
 use lib.ListN.{length}
 use Rattle.words.proofs.lists.numbers_end.Given as goal
 

@@ -1,6 +1,5 @@
 -- `name_at` is safe and ends: each turn takes a byte of the names, and no more names are counted than bytes.
 use Prim.Native.Nat.{◌-◌, ◌≤◌}
-use native.Mathlib.Omega.{arith}
 use lib.ListN.{length}
 use Rattle.words.proofs.names.name_at.Given as goal
 

@@ -1,6 +1,5 @@
 -- `place_in` is safe and ends: each turn takes a byte of the names.
 use Prim.Native.Nat.{◌-◌, ◌≤◌}
-use native.Mathlib.Omega.{arith}
 use lib.ListN.{length}
 use Rattle.words.proofs.names.place_in.Given as goal
 
