@@ -3,6 +3,7 @@
 
 use edit_scripts::{Script, played};
 use getter_words::put_getters;
+use output::Console;
 use packet::Packet;
 use packet_words::EDITS;
 use placing::put_bytes;
@@ -20,6 +21,7 @@ pub fn named(line: &[u8]) -> Named {
 
 // edit START ; STEP ; STEP
 pub fn answer(
+    console: Console,
     line: &[u8],
     at: usize,
     store: &mut [u8],
@@ -31,6 +33,7 @@ pub fn answer(
     let length = begun.length;
     let script = scripted(begun, line, store, room);
     put_script(
+        console,
         script,
         line,
         part(store, 0, length),
@@ -52,6 +55,7 @@ fn scripted(begun: Begun, line: &[u8], store: &mut [u8], room: &mut [u8]) -> Scr
 
 // Puts the answer to a script.
 fn put_script<'a>(
+    console: Console,
     script: Script,
     line: &[u8],
     datagram: &'a [u8],
@@ -64,7 +68,16 @@ fn put_script<'a>(
         return judged(script).put(out, place, line, line);
     }
     let packet = script.packet;
-    let next = put_getters(out, place, line, script.asked, packet, datagram, edits);
+    let next = put_getters(
+        console,
+        out,
+        place,
+        line,
+        script.asked,
+        packet,
+        datagram,
+        edits,
+    );
     put_messages(out, next, packet, datagram, edits, room)
 }
 

@@ -4,7 +4,7 @@
 use decimal::put_decimal;
 use hexadecimal::put_hex;
 use lines::put_number;
-use output::spilled;
+use output::{Console, spilled};
 use packet::Packet;
 use packet_words::{Reply, put_parts, put_separator};
 use placing::{put_byte, put_bytes};
@@ -14,6 +14,7 @@ use words::{NOWHERE, low16, number_at, separator};
 
 // Puts a packet, and what the getters answer of it. The numbers asked for stand in the line, at NOWHERE for none.
 pub fn put_getters<'a>(
+    console: Console,
     out: &mut [u8],
     place: usize,
     line: &[u8],
@@ -24,7 +25,7 @@ pub fn put_getters<'a>(
 ) -> usize {
     let head = Reply::showing(packet).told;
     let next = head.put(out, place, datagram, datagram);
-    let next = put_parts(out, next, packet, datagram, edits);
+    let next = put_parts(console, out, next, packet, datagram, edits);
     let next = put_format(
         out,
         next,
@@ -36,7 +37,7 @@ pub fn put_getters<'a>(
         typed_options::get_observe_value(packet, datagram, edits),
     );
     let next = put_bytes(out, next, b" asked ");
-    put_asked(out, next, line, asked, packet, datagram, edits)
+    put_asked(console, out, next, line, asked, packet, datagram, edits)
 }
 
 fn put_format(out: &mut [u8], place: usize, format: ContentFormat) -> usize {
@@ -68,6 +69,7 @@ fn put_observe(out: &mut [u8], place: usize, observe: Observe) -> usize {
 // Puts what is asked of each number in a list. A list can ask for one long value again and again, so the output is
 // spilled on the way.
 fn put_asked<'a>(
+    console: Console,
     out: &mut [u8],
     place: usize,
     line: &[u8],
@@ -87,7 +89,7 @@ fn put_asked<'a>(
         if number.next == NOWHERE {
             return place;
         }
-        place = put_separator(out, spilled(out, place), i);
+        place = put_separator(out, spilled(console, out, place), i);
         place = put_one_asked(out, place, low16(number.value), packet, datagram, edits);
         next = number.next;
         i = i + 1;

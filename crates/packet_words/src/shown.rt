@@ -1,7 +1,7 @@
 // Packets as words of an answer.
 use decimal::put_decimal;
 use hexadecimal::put_hex;
-use output::spilled;
+use output::{Console, spilled};
 use packet::{NumberAt, Packet};
 use placing::put_byte;
 use telling::{PACKET, Told, put_value};
@@ -44,12 +44,19 @@ impl Reply {
 
     // Puts the answer. What comes of a store or of a writer's output is taken from there: a packet that is shown was read, and has
     // every byte in the store.
-    pub fn put(self, out: &mut [u8], place: usize, store: &[u8], output: &[u8]) -> usize {
+    pub fn put(
+        self,
+        console: Console,
+        out: &mut [u8],
+        place: usize,
+        store: &[u8],
+        output: &[u8],
+    ) -> usize {
         let told = self.told;
         let packet = self.packet;
         let next = told.put(out, place, store, output);
         if self.shown {
-            return put_parts(out, next, packet, store, store);
+            return put_parts(console, out, next, packet, store, store);
         }
         next
     }
@@ -57,6 +64,7 @@ impl Reply {
 
 // Puts a packet's token, options and payload.
 pub fn put_parts<'a>(
+    console: Console,
     out: &mut [u8],
     place: usize,
     packet: Packet,
@@ -65,12 +73,13 @@ pub fn put_parts<'a>(
 ) -> usize {
     let next = put_value(out, place, packet.get_token(datagram, edits));
     let next = put_byte(out, next, b' ');
-    let next = put_options(out, next, packet, datagram, edits);
+    let next = put_options(console, out, next, packet, datagram, edits);
     put_value(out, next, packet.get_payload(datagram, edits))
 }
 
 // Puts the options. Raw ones can have one long value again and again, so the output is spilled on the way.
 fn put_options<'a>(
+    console: Console,
     out: &mut [u8],
     place: usize,
     packet: Packet,
@@ -84,7 +93,7 @@ fn put_options<'a>(
     let mut next = place;
     let mut i = 0;
     while i < count {
-        next = put_separator(out, spilled(out, next), i);
+        next = put_separator(out, spilled(console, out, next), i);
         next = put_option(
             out,
             next,

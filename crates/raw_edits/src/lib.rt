@@ -4,6 +4,7 @@
 mod edited;
 mod reply;
 
+use output::Console;
 use words::{Named, name_at};
 
 const NAMES: [u8; 17] = *b"get-raw;edit-raw;";
@@ -16,9 +17,16 @@ pub fn named(line: &[u8]) -> Named {
 }
 
 // Answers a request. The packet's bytes go to the store.
-pub fn answer(name: Named, line: &[u8], store: &mut [u8], out: &mut [u8], place: usize) -> usize {
+pub fn answer(
+    console: Console,
+    name: Named,
+    line: &[u8],
+    store: &mut [u8],
+    out: &mut [u8],
+    place: usize,
+) -> usize {
     if name.index == GET {
-        return edited::get(line, name.next, store).put(out, place, line, store);
+        return edited::get(line, name.next, store).put(console, out, place, line, store);
     }
-    edited::edit(line, name.next, store).put(out, place, line, store)
+    edited::edit(line, name.next, store).put(console, out, place, line, store)
 }

@@ -1,5 +1,6 @@
 // Answers to requests on raw packets.
 use getter_words::put_getters;
+use output::Console;
 use packet::Packet;
 use packet_words::{EDITS, Ends};
 use raw_words::put_raw;
@@ -50,13 +51,21 @@ impl Reply {
     }
 
     // Puts the answer.
-    pub fn put(self, out: &mut [u8], place: usize, line: &[u8], store: &[u8]) -> usize {
+    pub fn put(
+        self,
+        console: Console,
+        out: &mut [u8],
+        place: usize,
+        line: &[u8],
+        store: &[u8],
+    ) -> usize {
         let told = self.told;
         let more = self.more;
         let packet = self.packet;
         let next = told.put(out, place, store, store);
         let ends = self.ends;
         put_more(
+            console,
             out,
             next,
             more,
@@ -69,6 +78,7 @@ impl Reply {
 }
 
 fn put_more<'a>(
+    console: Console,
     out: &mut [u8],
     place: usize,
     more: More,
@@ -80,6 +90,8 @@ fn put_more<'a>(
     match more {
         More::Nothing => place,
         More::Raw => put_raw(out, place, packet, datagram, edits),
-        More::Getters(asked) => put_getters(out, place, line, asked, packet, datagram, edits),
+        More::Getters(asked) => {
+            put_getters(console, out, place, line, asked, packet, datagram, edits)
+        }
     }
 }
