@@ -1,24 +1,25 @@
 // Answers requests: reads them on standard input, one to a line, and writes one answer to a line to standard output.
 #![tactic(auto)]
 
-use libc::STDIN_FILENO;
+use output::Console;
 use pieces::Kept;
+use std::io::{Read, Stdin};
 use words::part;
 
 mod pieces;
 mod requests;
 
-fn main() {
+fn main(rt: HostRuntime) {
     let mut input = [0u8; 300000];
-    answer_all(&mut input);
+    answer_all(&rt, &mut input);
 }
 
 // Takes the input piece by piece, as far as a limit on the pieces that no input reaches.
-fn answer_all(input: &mut [u8; 300000]) {
-    take_all(input);
+fn answer_all(rt: &HostRuntime, input: &mut [u8; 300000]) {
+    take_all(Console::of(rt), rt.stdin(), input);
 }
 
-fn take_all(input: &mut [u8]) {
+fn take_all(console: Console, from: Stdin, input: &mut [u8]) {
     let mut kept = Kept {
         waiting: 0,
         cut: false,
@@ -27,7 +28,7 @@ fn take_all(input: &mut [u8]) {
     let mut left: u64 = 1000000000000000;
     while 0 < left {
         if kept.more {
-            kept = take_piece(kept, input);
+            kept = take_piece(console, from, kept, input);
             left = left - 1;
         } else {
             left = 0;
@@ -36,22 +37,24 @@ fn take_all(input: &mut [u8]) {
 }
 
 // Reads a piece of the input and answers the lines that end in it.
-fn take_piece(kept: Kept, input: &mut [u8]) -> Kept {
+fn take_piece(console: Console, mut from: Stdin, kept: Kept, input: &mut [u8]) -> Kept {
     let waiting = kept.waiting;
     if input.len() <= waiting {
-        return end(kept, input);
+        return end(console, kept, input);
     }
-    let got = libc::read(STDIN_FILENO, &mut input[waiting..]);
-    if got < 0 {
-        output::input_failed();
-        return Kept::NONE;
+    match from.read(&mut input[waiting..]) {
+        Err(why) => {
+            output::input_failed(console, why);
+            Kept::NONE
+        }
+        Ok(0) => end(console, kept, input),
+        Ok(count) => take_read(console, kept, input, waiting + count),
     }
-    let count = io::count(got, &input[waiting..]);
-    if count == 0 {
-        return end(kept, input);
-    }
-    let full = waiting + count;
-    let kept = pieces::answer(kept, part(input, 0, full));
+}
+
+// Answers the lines that end in the bytes read so far.
+fn take_read(console: Console, kept: Kept, input: &mut [u8], full: usize) -> Kept {
+    let kept = pieces::answer(console, kept, part(input, 0, full));
     let taken = kept.waiting;
     let waiting = moving::move_to_front(input, taken, full);
     if waiting < input.len() {
@@ -69,12 +72,12 @@ fn take_piece(kept: Kept, input: &mut [u8]) -> Kept {
 }
 
 // At the end of the input: a last line that has no newline gets one.
-fn end(kept: Kept, input: &mut [u8]) -> Kept {
+fn end(console: Console, kept: Kept, input: &mut [u8]) -> Kept {
     let waiting = kept.waiting;
     if 0 < waiting || kept.cut {
         if waiting < input.len() {
             input[waiting] = b'\n';
-            pieces::answer(kept, part(input, 0, waiting + 1));
+            pieces::answer(console, kept, part(input, 0, waiting + 1));
         }
     }
     Kept::NONE

@@ -1,7 +1,7 @@
 // The lines of a piece of the input. What they answer is written out with the piece, so that no client waits for an answer
 // while the program waits for a request.
 use crate::requests;
-use output::{flushed, spilled};
+use output::{Console, flushed, spilled};
 use placing::put_byte;
 use telling::Told;
 use words::{NOWHERE, part};
@@ -27,24 +27,26 @@ impl Kept {
 }
 
 // Answers the lines of a piece. How far they go stands in `waiting`.
-pub fn answer(kept: Kept, piece: &[u8]) -> Kept {
+pub fn answer(console: Console, kept: Kept, piece: &[u8]) -> Kept {
     let mut store = [0u8; 200000];
     let mut room = [0u8; 71000];
     let mut out = [0u8; 600000];
-    answer_over(kept, piece, &mut store, &mut room, &mut out)
+    answer_over(console, kept, piece, &mut store, &mut room, &mut out)
 }
 
 fn answer_over(
+    console: Console,
     kept: Kept,
     piece: &[u8],
     store: &mut [u8; 200000],
     room: &mut [u8; 71000],
     out: &mut [u8; 600000],
 ) -> Kept {
-    answer_lines(kept, piece, store, room, out)
+    answer_lines(console, kept, piece, store, room, out)
 }
 
 fn answer_lines(
+    console: Console,
     kept: Kept,
     piece: &[u8],
     store: &mut [u8],
@@ -58,22 +60,30 @@ fn answer_lines(
     while i < piece.len() {
         let end = line_end(piece, start);
         if end == NOWHERE {
-            return written(start, cut, out, place);
+            return written(console, start, cut, out, place);
         }
-        place = answer_line(cut, part(piece, start, end), store, room, out, place);
+        place = answer_line(
+            console,
+            cut,
+            part(piece, start, end),
+            store,
+            room,
+            out,
+            place,
+        );
         cut = false;
         start = end;
         i = i + 1;
     }
-    written(start, cut, out, place)
+    written(console, start, cut, out, place)
 }
 
 // Writes the answers of a piece.
-fn written(waiting: usize, cut: bool, out: &[u8], place: usize) -> Kept {
+fn written(console: Console, waiting: usize, cut: bool, out: &[u8], place: usize) -> Kept {
     Kept {
         waiting,
         cut,
-        more: flushed(out, place) != NOWHERE,
+        more: flushed(console, out, place) != NOWHERE,
     }
 }
 
@@ -91,6 +101,7 @@ fn line_end(piece: &[u8], at: usize) -> usize {
 
 // Answers a line. The output is written once half of it is full: what a line answers in one go fits into the rest.
 fn answer_line(
+    console: Console,
     cut: bool,
     line: &[u8],
     store: &mut [u8],
@@ -98,13 +109,14 @@ fn answer_line(
     out: &mut [u8],
     place: usize,
 ) -> usize {
-    let next = answer_request(cut, line, store, room, out, place);
+    let next = answer_request(console, cut, line, store, room, out, place);
     let next = put_byte(out, next, b'\n');
-    spilled(out, next)
+    spilled(console, out, next)
 }
 
 // A line of over 200,000 bytes and its newline is no request, and neither is one whose start is gone.
 fn answer_request(
+    console: Console,
     cut: bool,
     line: &[u8],
     store: &mut [u8],
@@ -115,5 +127,5 @@ fn answer_request(
     if cut || 200001 < line.len() {
         return Told::no_request().put(out, place, line, line);
     }
-    requests::answer(line, store, room, out, place)
+    requests::answer(console, line, store, room, out, place)
 }

@@ -1,9 +1,11 @@
 // The request of a line, by its first word.
+use output::Console;
 use telling::Told;
 use words::NOWHERE;
 
 // Answers the request of a line.
 pub fn answer(
+    console: Console,
     line: &[u8],
     store: &mut [u8],
     room: &mut [u8],
@@ -13,15 +15,15 @@ pub fn answer(
     let name = packet_requests::named(line);
     if name.index != NOWHERE {
         let reply = packet_requests::answer(name, line, store, room);
-        return reply.put(out, place, store, room);
+        return reply.put(console, out, place, store, room);
     }
     let name = edit_requests::named(line);
     if name.index != NOWHERE {
-        return edit_requests::answer(line, name.next, store, room, out, place);
+        return edit_requests::answer(console, line, name.next, store, room, out, place);
     }
     let name = raw_edits::named(line);
     if name.index != NOWHERE {
-        return raw_edits::answer(name, line, store, out, place);
+        return raw_edits::answer(console, name, line, store, out, place);
     }
     let name = plan_requests::named(line);
     if name.index != NOWHERE {

@@ -3,6 +3,7 @@
 // any length; from a pipe it is first copied to /tmp, and the room there bounds it.
 #![tactic(auto)]
 
+use output::Console;
 use passes::{Work, form_of, pass};
 use placing::put_bytes;
 use refusal::Outcome;
@@ -12,51 +13,55 @@ use stream::Form;
 use walks::Walk;
 use words::part;
 
-fn main() {
+fn main(rt: HostRuntime) {
     let mut window = [0u8; 65536];
     let mut out = [0u8; 65536];
-    convert_over(&mut window, &mut out);
+    convert_over(&rt, &mut window, &mut out);
 }
 
-fn convert_over(window: &mut [u8; 65536], out: &mut [u8; 65536]) {
-    let input = reread::standard();
-    if 0 <= input.fd {
-        convert(input, window, out);
+fn convert_over(rt: &HostRuntime, window: &mut [u8; 65536], out: &mut [u8; 65536]) {
+    let console = Console::of(rt);
+    if let Some(input) = reread::standard(rt, console) {
+        convert(console, &input, window, out);
     }
 }
 
 // Finds the form of the stream, and converts it from that.
-fn convert(input: Input, window: &mut [u8], out: &mut [u8]) {
-    let front = reread::front(input, window);
+fn convert(console: Console, input: &Input, window: &mut [u8], out: &mut [u8]) {
+    let front = reread::front(console, input, window);
     if front.failed {
         return;
     }
     let form = form_of(part(window, 0, front.count));
-    convert_from(input, form, window, out);
+    convert_from(console, input, form, window, out);
 }
 
 // Judges the stream, and converts it where it is one.
-fn convert_from(input: Input, form: Form, window: &mut [u8], out: &mut [u8]) {
-    let judged = pass(input, form, Work::Judge, window, out);
+fn convert_from(console: Console, input: &Input, form: Form, window: &mut [u8], out: &mut [u8]) {
+    let judged = pass(console, input, form, Work::Judge, window, out);
     let outcome = judged.outcome;
     match outcome {
-        Outcome::Refused(_) => report(form, judged),
+        Outcome::Refused(_) => report(console, form, judged),
         Outcome::Done => {
             if !judged.failed {
-                report(form, pass(input, form, Work::Convert, window, out));
+                report(
+                    console,
+                    form,
+                    pass(console, input, form, Work::Convert, window, out),
+                );
             }
         }
     }
 }
 
 // The verdict; nothing where reading or writing failed, of which standard error has a line.
-fn report(form: Form, walk: Walk) {
+fn report(console: Console, form: Form, walk: Walk) {
     if walk.failed {
         return;
     }
     let mut line = [0u8; 100];
     let place = put_verdict(form, walk, &mut line);
-    say(part(&line, 0, place));
+    say(console, part(&line, 0, place));
 }
 
 fn put_verdict(form: Form, walk: Walk, line: &mut [u8]) -> usize {

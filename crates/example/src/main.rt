@@ -3,7 +3,7 @@
 
 use editing::add_option;
 use hexadecimal::put_hex;
-use libc::STDIN_FILENO;
+use output::Console;
 use packet::{Home, Packet};
 use placing::put_byte;
 use refusal::{Outcome, Refusal, Written};
@@ -36,33 +36,34 @@ fn with_query<'a>(packet: Packet, datagram: &'a [u8], edits: &'a [u8], out: &mut
     }
 }
 
-fn main() {
-    let mut datagram = io::large_buffer();
-    let filled = reread::fill(STDIN_FILENO, &mut datagram, 0);
+fn main(rt: HostRuntime) {
+    let console = Console::of(&rt);
+    let mut datagram = [0u8; 65536];
+    let filled = reread::fill(console, &mut rt.stdin(), &mut datagram, 0);
     if !filled.failed {
-        show(part(&datagram, 0, filled.count));
+        show(console, part(&datagram, 0, filled.count));
     }
 }
 
 // A line with the bytes of what is written, or with the refusal.
-fn show(datagram: &[u8]) {
+fn show(console: Console, datagram: &[u8]) {
     let mut out = [0u8; 1152];
     match in_english(datagram, b"lang=en", &mut out) {
-        Written::Refused(why) => show_refused(why),
-        Written::Length(length) => show_bytes(part(&out, 0, length)),
+        Written::Refused(why) => show_refused(console, why),
+        Written::Length(length) => show_bytes(console, part(&out, 0, length)),
     }
 }
 
-fn show_bytes(bytes: &[u8]) {
+fn show_bytes(console: Console, bytes: &[u8]) {
     let mut line = [0u8; 2400];
     let next = put_hex(&mut line, 0, bytes);
     let next = put_byte(&mut line, next, b'\n');
-    flushed(&line, next);
+    flushed(console, &line, next);
 }
 
-fn show_refused(why: Refusal) {
+fn show_refused(console: Console, why: Refusal) {
     let mut line = [0u8; 100];
     let next = put_named(&mut line, 0, why);
     let next = put_byte(&mut line, next, b'\n');
-    flushed(&line, next);
+    flushed(console, &line, next);
 }

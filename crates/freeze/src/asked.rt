@@ -1,4 +1,6 @@
 // The form that the program is asked for.
+use std::env::FillError;
+use std::rt::Env;
 use stream::Form;
 use words::{NOWHERE, past};
 
@@ -9,12 +11,17 @@ pub enum Asked {
 }
 
 // `old`, `new`, or no argument, which is `old`.
-pub fn form() -> Asked {
+pub fn form(rt: &HostRuntime) -> Asked {
     let mut word = [0u8; 8];
-    let length = os::arg(1, &mut word);
-    if os::arg_count() < 2 {
-        return Asked::Form(Form::Old);
+    match rt.arg(1, &mut word) {
+        Err(FillError::NotPresent) => Asked::Form(Form::Old),
+        Err(FillError::TooLong) => Asked::Nothing,
+        Ok(length) => form_of(length, word),
     }
+}
+
+// The form of a word of so many bytes.
+fn form_of(length: usize, word: [u8; 8]) -> Asked {
     if length != 3 {
         return Asked::Nothing;
     }

@@ -1,6 +1,7 @@
 // A pass over the lines: to judge them, or to freeze them. An empty line is no message.
 use freezing::freeze;
 use hexadecimal::put_unhexed;
+use output::Console;
 use peer_reading::peer_in;
 use placing::put_bytes;
 use reading::from_bytes_strict;
@@ -19,23 +20,25 @@ const MANY: u64 = 1000000000000000;
 
 // Passes over the whole input. What is frozen goes to the output, which is written as it fills.
 pub fn pass(
-    input: Input,
+    console: Console,
+    input: &Input,
     form: Form,
     writing: bool,
     window: &mut [u8],
     datagram: &mut [u8],
     out: &mut [u8],
 ) -> Walk {
-    if !reread::rewound(input) {
+    if !reread::rewound(console, input) {
         return Walk::start().failing();
     }
-    let walk = take_all(input.fd, form, writing, window, datagram, out);
-    walk.finished(out)
+    let walk = take_all(console, input, form, writing, window, datagram, out);
+    walk.finished(console, out)
 }
 
 // Takes window after window.
 fn take_all(
-    fd: i32,
+    console: Console,
+    input: &Input,
     form: Form,
     writing: bool,
     window: &mut [u8],
@@ -48,16 +51,17 @@ fn take_all(
         if !walk.more {
             return walk;
         }
-        walk = take_window(fd, form, writing, walk, window, datagram, out);
+        walk = take_window(console, input, form, writing, walk, window, datagram, out);
         windows = windows + 1;
-        progress(b"passed over more than ", windows);
+        progress(console, b"passed over more than ", windows);
     }
     walk
 }
 
 // Fills the window behind what waits in it, and takes the lines that are whole.
 fn take_window(
-    fd: i32,
+    console: Console,
+    input: &Input,
     form: Form,
     writing: bool,
     walk: Walk,
@@ -65,12 +69,13 @@ fn take_window(
     datagram: &mut [u8],
     out: &mut [u8],
 ) -> Walk {
-    let filled = fill(fd, window, walk.waiting);
+    let filled = fill(console, input, window, walk.waiting);
     if filled.failed {
         return walk.failing();
     }
     let count = filled.count;
     let walk = take_lines(
+        console,
         form,
         writing,
         walk.at(0, true),
@@ -95,8 +100,8 @@ fn is_stuck(walk: Walk, ended: bool) -> bool {
 }
 
 // Fills the window behind what waits in it. A last line with no newline gets one.
-fn fill(fd: i32, window: &mut [u8], waiting: usize) -> Filled {
-    let filled = reread::fill(fd, window, waiting);
+fn fill(console: Console, input: &Input, window: &mut [u8], waiting: usize) -> Filled {
+    let filled = reread::fill(console, &mut &input.file, window, waiting);
     Filled {
         count: closed(window, filled.count),
         ended: filled.ended,
@@ -115,6 +120,7 @@ fn closed(window: &mut [u8], count: usize) -> usize {
 
 // Takes the lines that are whole in the window.
 fn take_lines(
+    console: Console,
     form: Form,
     writing: bool,
     start: Walk,
@@ -128,7 +134,7 @@ fn take_lines(
         if is_done(walk, window) {
             return walk;
         }
-        walk = take_next(form, writing, walk, window, datagram, out);
+        walk = take_next(console, form, writing, walk, window, datagram, out);
         i = i + 1;
     }
     walk
@@ -144,6 +150,7 @@ fn is_done(walk: Walk, window: &[u8]) -> bool {
 
 // Takes the next line, and goes on behind it.
 fn take_next(
+    console: Console,
     form: Form,
     writing: bool,
     walk: Walk,
@@ -162,7 +169,7 @@ fn take_next(
         datagram,
         out,
     );
-    walk.spilling(out)
+    walk.spilling(console, out)
 }
 
 // The position of the first such byte from a position on.

@@ -9,6 +9,7 @@ mod asked;
 mod lines;
 
 use asked::Asked;
+use output::Console;
 use placing::put_bytes;
 use refusal::Outcome;
 use reports::{put_number, put_refused, say};
@@ -17,51 +18,73 @@ use stream::Form;
 use walks::Walk;
 use words::part;
 
-fn main() {
+fn main(rt: HostRuntime) {
     let mut window = [0u8; 200000];
     let mut datagram = [0u8; 100000];
     let mut out = [0u8; 65536];
-    freeze_over(&mut window, &mut datagram, &mut out);
+    freeze_over(&rt, &mut window, &mut datagram, &mut out);
 }
 
-fn freeze_over(window: &mut [u8; 200000], datagram: &mut [u8; 100000], out: &mut [u8; 65536]) {
-    match asked::form() {
-        Asked::Form(form) => freeze_input(form, window, datagram, out),
+fn freeze_over(
+    rt: &HostRuntime,
+    window: &mut [u8; 200000],
+    datagram: &mut [u8; 100000],
+    out: &mut [u8; 65536],
+) {
+    match asked::form(rt) {
+        Asked::Form(form) => freeze_input(rt, form, window, datagram, out),
         Asked::Nothing => say(
+            Console::of(rt),
             b"freeze takes no argument but the form: old, as by default, or new\n",
         ),
     }
 }
 
-fn freeze_input(form: Form, window: &mut [u8], datagram: &mut [u8], out: &mut [u8]) {
-    let input = reread::standard();
-    if 0 <= input.fd {
-        freeze(input, form, window, datagram, out);
+fn freeze_input(
+    rt: &HostRuntime,
+    form: Form,
+    window: &mut [u8],
+    datagram: &mut [u8],
+    out: &mut [u8],
+) {
+    let console = Console::of(rt);
+    if let Some(input) = reread::standard(rt, console) {
+        freeze(console, &input, form, window, datagram, out);
     }
 }
 
 // Judges the lines, and freezes them where none is refused.
-fn freeze(input: Input, form: Form, window: &mut [u8], datagram: &mut [u8], out: &mut [u8]) {
-    let judged = lines::pass(input, form, false, window, datagram, out);
+fn freeze(
+    console: Console,
+    input: &Input,
+    form: Form,
+    window: &mut [u8],
+    datagram: &mut [u8],
+    out: &mut [u8],
+) {
+    let judged = lines::pass(console, input, form, false, window, datagram, out);
     let outcome = judged.outcome;
     match outcome {
-        Outcome::Refused(_) => report(judged),
+        Outcome::Refused(_) => report(console, judged),
         Outcome::Done => {
             if !judged.failed {
-                report(lines::pass(input, form, true, window, datagram, out));
+                report(
+                    console,
+                    lines::pass(console, input, form, true, window, datagram, out),
+                );
             }
         }
     }
 }
 
 // The verdict; nothing where reading or writing failed, of which standard error has a line.
-fn report(walk: Walk) {
+fn report(console: Console, walk: Walk) {
     if walk.failed {
         return;
     }
     let mut line = [0u8; 100];
     let place = put_verdict(walk, &mut line);
-    say(part(&line, 0, place));
+    say(console, part(&line, 0, place));
 }
 
 // frozen, messages 2, bytes 104

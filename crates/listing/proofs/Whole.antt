@@ -15,8 +15,6 @@ use Rattle.packet.specs.Packet.{stores, new_packet}
 use Rattle.reading.specs.Reading.{reading}
 use Rattle.refusal.proofs.Answers.{Given}
 use Rattle.reading.proofs.Accept.{accepted}
-use Rattle.io.specs.Counts.{IsPrefixLen}
-use Rattle.io.proofs.Counting.{prefix_len_of_le}
 use Rattle.placing.specs.Put.{Puts}
 use Rattle.placing.proofs.Puts.{puts_within, puts_front}
 use Rattle.lines.proofs.Size.{message_size_lem, refusal_line_size}
@@ -36,5 +34,5 @@ listing_size s b =
     (λ h. answer_size s h (reading true s) (accepted s b))
 
 -- What `list` promises, from what putting the listing leaves.
-pub promised : {l m : List ℕ} {r : ℕ} (s : List ℕ) → Bytes s → 135000 ≤ length l → Puts l 0 (listing s) r m → IsPrefixLen r m × (take r m ≡ listing s)
-promised s b room p = (prefix_len_of_le _ _ (puts_within p (omega arith)), puts_front p (omega (arith, listing_size s b)))
+pub promised : {l m : List ℕ} {r : ℕ} (s : List ℕ) → Bytes s → 135000 ≤ length l → Puts l 0 (listing s) r m → (r ≤ length m) × (take r m ≡ listing s)
+promised s b room p = (puts_within p (omega arith), puts_front p (omega (arith, listing_size s b)))

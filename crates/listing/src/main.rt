@@ -1,18 +1,17 @@
 // Reads one datagram from standard input, strict, and writes its lines to standard output.
 #![tactic(auto)]
 
-ghost use Rattle.std.specs.Prelude.{◌≡◌, take};
-ghost use Rattle.io.specs.Counts.{IsPrefixLen};
+ghost use Rattle.std.specs.Prelude.{◌≡◌, ◌≤◌, length, take};
 ghost use Rattle.listing.specs.Listing.{listing};
 
-use libc::{STDIN_FILENO, STDOUT_FILENO};
+use output::Console;
 use refusal::Refusal;
 use words::part;
 
 // Puts the lines of a datagram at the start of the output, which has room for those of every datagram, and answers how many
 // bytes they are.
 fn list(datagram: &[u8], out: &mut [u8; 135000]) -> usize
-    ensures prefix_len { IsPrefixLen result out.new }
+    ensures prefix_len { result ≤ length out.new }
     ensures out_after { take result out.new ≡ listing datagram.now }
 {
     if 65535 < datagram.len() {
@@ -29,15 +28,14 @@ fn list(datagram: &[u8], out: &mut [u8; 135000]) -> usize
 
 // The buffer has room for one byte more than a datagram may have, which is how a longer one is known. Where reading or writing
 // fails, standard error says why.
-fn main() {
-    let mut datagram = io::large_buffer();
-    let filled = reread::fill(STDIN_FILENO, &mut datagram, 0);
+fn main(rt: HostRuntime) {
+    let console = Console::of(&rt);
+    let mut datagram = [0u8; 65536];
+    let filled = reread::fill(console, &mut rt.stdin(), &mut datagram, 0);
     if filled.failed {
         return;
     }
     let mut out = [0u8; 135000];
     let m = list(part(&datagram, 0, filled.count), &mut out);
-    if !io::write_all(STDOUT_FILENO, &out[..m]) {
-        os::fail(b"writing the output");
-    }
+    console.write(&out[..m]);
 }

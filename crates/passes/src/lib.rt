@@ -6,6 +6,7 @@
 mod messages;
 
 use messages::take_messages;
+use output::Console;
 use reports::progress;
 use reread::Input;
 use stream::Form;
@@ -33,44 +34,60 @@ pub fn form_of(front: &[u8]) -> Form {
 }
 
 // Passes over the whole stream. What is made of it goes to the output, which is written as it fills.
-pub fn pass(input: Input, form: Form, work: Work, window: &mut [u8], out: &mut [u8]) -> Walk {
-    if !reread::rewound(input) {
+pub fn pass(
+    console: Console,
+    input: &Input,
+    form: Form,
+    work: Work,
+    window: &mut [u8],
+    out: &mut [u8],
+) -> Walk {
+    if !reread::rewound(console, input) {
         return Walk::start().failing();
     }
-    let walk = take_all(input.fd, form, work, window, out);
-    walk.finished(out)
+    let walk = take_all(console, input, form, work, window, out);
+    walk.finished(console, out)
 }
 
 // Takes window after window.
-fn take_all(fd: i32, form: Form, work: Work, window: &mut [u8], out: &mut [u8]) -> Walk {
+fn take_all(
+    console: Console,
+    input: &Input,
+    form: Form,
+    work: Work,
+    window: &mut [u8],
+    out: &mut [u8],
+) -> Walk {
     let mut walk = Walk::start();
     let mut windows: u64 = 0;
     while windows < MANY {
         if !walk.more {
             return walk;
         }
-        walk = take_window(fd, form, work, walk, window, out);
+        walk = take_window(console, input, form, work, walk, window, out);
         windows = windows + 1;
-        progress(b"passed over ", windows);
+        progress(console, b"passed over ", windows);
     }
     walk
 }
 
 // Fills the window behind what waits in it, and takes the messages that are whole.
 fn take_window(
-    fd: i32,
+    console: Console,
+    input: &Input,
     form: Form,
     work: Work,
     walk: Walk,
     window: &mut [u8],
     out: &mut [u8],
 ) -> Walk {
-    let filled = reread::fill(fd, window, walk.waiting);
+    let filled = reread::fill(console, &mut &input.file, window, walk.waiting);
     if filled.failed {
         return walk.failing();
     }
     let count = filled.count;
     let walk = take_messages(
+        console,
         form,
         work,
         walk.starting(),

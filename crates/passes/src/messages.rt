@@ -1,6 +1,7 @@
 // The messages of a window.
 use crate::Work;
 use lines::put_decoded;
+use output::Console;
 use peers::put_peer;
 use placing::{put_byte, put_bytes};
 use reading::from_bytes_strict;
@@ -18,6 +19,7 @@ const MANY: usize = 65536;
 
 // Takes the messages that are whole in the window: all, where the input ends with it.
 pub fn take_messages(
+    console: Console,
     form: Form,
     work: Work,
     start: Walk,
@@ -32,7 +34,7 @@ pub fn take_messages(
             return walk;
         }
         walk = take_message(form, work, walk, window, out);
-        walk = walk.spilling(out);
+        walk = walk.spilling(console, out);
         i = i + 1;
     }
     walk

@@ -4,66 +4,74 @@
 
 ghost use Rattle.std.specs.Prelude.{◌<◌, ◌≤◌, length};
 
-use libc::STDIN_FILENO;
-use output::{flushed, spilled};
+use output::{Console, flushed, spilled};
+use std::io::Stdin;
 use words::{byte_at, part};
 
 mod refused;
 mod showing;
 mod wording;
 
-fn main() {
+fn main(rt: HostRuntime) {
     let mut input = [0u8; 300000];
-    answer_input(&mut input);
+    answer_input(&rt, &mut input);
 }
 
-fn answer_input(input: &mut [u8; 300000]) {
-    answer_text(input);
+fn answer_input(rt: &HostRuntime, input: &mut [u8; 300000]) {
+    answer_text(Console::of(rt), rt.stdin(), input);
 }
 
 // Reads the input, and answers each line. Standard error says where the input can't be read, or is too long.
-fn answer_text(input: &mut [u8]) {
-    let filled = reread::fill(STDIN_FILENO, input, 0);
+fn answer_text(console: Console, mut from: Stdin, input: &mut [u8]) {
+    let filled = reread::fill(console, &mut from, input, 0);
     if filled.failed {
         return;
     }
     if filled.ended {
-        answer_with_buffers(part(input, 0, filled.count));
+        answer_with_buffers(console, part(input, 0, filled.count));
     } else {
-        reports::say(b"the input is too long: 299999 bytes at most\n");
+        reports::say(console, b"the input is too long: 299999 bytes at most\n");
     }
 }
 
-fn answer_with_buffers(text: &[u8]) {
+fn answer_with_buffers(console: Console, text: &[u8]) {
     let mut store = [0u8; 70000];
     let mut work = [0u8; 100000];
     let mut out = [0u8; 200000];
-    answer_over(text, &mut store, &mut work, &mut out);
+    answer_over(console, text, &mut store, &mut work, &mut out);
 }
 
 fn answer_over(
+    console: Console,
     text: &[u8],
     store: &mut [u8; 70000],
     work: &mut [u8; 100000],
     out: &mut [u8; 200000],
 ) {
-    answer_lines(text, store, work, out);
+    answer_lines(console, text, store, work, out);
 }
 
 // Answers each line, and says at the end how many there are.
-fn answer_lines(text: &[u8], store: &mut [u8], work: &mut [u8], out: &mut [u8]) {
+fn answer_lines(console: Console, text: &[u8], store: &mut [u8], work: &mut [u8], out: &mut [u8]) {
     let mut place = 0;
     let mut start = 0;
     let mut count = 0;
     while start < text.len() {
         let end = line_end(text, start);
         let line = without_newline(part(text, start, end));
-        place = showing::answer(line, store, work, out, spilled(out, place));
+        place = showing::answer(
+            console,
+            line,
+            store,
+            work,
+            out,
+            spilled(console, out, place),
+        );
         start = end;
         count = count + 1;
     }
-    place = wording::put_count(out, spilled(out, place), count);
-    flushed(out, place);
+    place = wording::put_count(out, spilled(console, out, place), count);
+    flushed(console, out, place);
 }
 
 // The position after the newline that ends the line at a position; the last line may have none.

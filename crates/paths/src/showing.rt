@@ -1,7 +1,7 @@
 // What is shown of a text: the records it becomes, their bytes on the wire, and the text that these give back.
 use crate::refused::{put_bad_option, put_refused};
 use crate::wording::{put_record, put_text, put_wire};
-use output::spilled;
+use output::{Console, spilled};
 use packet::{NumberAt, Packet};
 use refusal::Written;
 use target_reading::{Verdict, read_target};
@@ -14,6 +14,7 @@ const HEADER: usize = 4;
 
 // Answers a text.
 pub fn answer(
+    console: Console,
     text: &[u8],
     store: &mut [u8],
     work: &mut [u8],
@@ -23,27 +24,40 @@ pub fn answer(
     let read = read_target(text, store, 0);
     let outcome = read.outcome;
     match outcome {
-        Verdict::Passes => show(read.packet, store, work, out, place),
+        Verdict::Passes => show(console, read.packet, store, work, out, place),
         Verdict::Refused(why) => put_refused(out, place, why),
         Verdict::BadOption(index) => put_bad_option(out, place, index),
     }
 }
 
-fn show(packet: Packet, edits: &[u8], work: &mut [u8], out: &mut [u8], place: usize) -> usize {
-    let next = show_records(packet, edits, out, place);
-    let next = show_wire(packet, edits, work, out, spilled(out, next));
-    show_text(packet, edits, work, out, spilled(out, next))
+fn show(
+    console: Console,
+    packet: Packet,
+    edits: &[u8],
+    work: &mut [u8],
+    out: &mut [u8],
+    place: usize,
+) -> usize {
+    let next = show_records(console, packet, edits, out, place);
+    let next = show_wire(packet, edits, work, out, spilled(console, out, next));
+    show_text(packet, edits, work, out, spilled(console, out, next))
 }
 
 // A line for each record. They are many, so the output is spilled on the way.
-fn show_records(packet: Packet, edits: &[u8], out: &mut [u8], place: usize) -> usize {
+fn show_records(
+    console: Console,
+    packet: Packet,
+    edits: &[u8],
+    out: &mut [u8],
+    place: usize,
+) -> usize {
     let count = packet.option_count();
     let mut next = place;
     let mut i = 0;
     while i < count {
         let number = number_of(packet.option_number(i));
         let value = packet.option_value(part(edits, 0, 0), edits, i);
-        next = put_record(out, spilled(out, next), number, value);
+        next = put_record(out, spilled(console, out, next), number, value);
         i = i + 1;
     }
     next

@@ -3,7 +3,7 @@ ghost use Rattle.std.specs.Prelude.{◌≤◌};
 
 use decimal::put_decimal;
 use hexadecimal::put_hex;
-use output::spilled;
+use output::{Console, spilled};
 use placing::{put_byte, put_bytes, put_uint};
 use words::part;
 
@@ -38,11 +38,17 @@ pub fn first_of(value: u32) -> u64
 }
 
 // Puts a line for each value. They are many, so the output is spilled on the way.
-pub fn put_blocks(size: usize, values: &[u32], out: &mut [u8], place: usize) -> usize {
+pub fn put_blocks(
+    console: Console,
+    size: usize,
+    values: &[u32],
+    out: &mut [u8],
+    place: usize,
+) -> usize {
     let mut next = place;
     let mut i = 0;
     while i < values.len() {
-        next = put_block(size, values[i], out, spilled(out, next));
+        next = put_block(size, values[i], out, spilled(console, out, next));
         i = i + 1;
     }
     next

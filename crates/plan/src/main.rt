@@ -2,9 +2,9 @@
 // the verdict to standard output.
 #![tactic(auto)]
 
-use libc::STDIN_FILENO;
-use output::flushed;
+use output::{Console, flushed};
 use placing::put_bytes;
+use std::io::Stdin;
 use words::{NOWHERE, part};
 
 mod asking;
@@ -16,62 +16,63 @@ mod showing;
 const LEGEND: [u8; 120] =
     *b"in pictures # is held, 0 to 6 is asked for in blocks of 16, 32, 64, 128, 256, 512 or 1024 bytes, + is units that differ\n";
 
-fn main() {
+fn main(rt: HostRuntime) {
     let mut input = [0u8; 300000];
-    answer_input(&mut input);
+    answer_input(&rt, &mut input);
 }
 
-fn answer_input(input: &mut [u8; 300000]) {
-    answer_text(input);
+fn answer_input(rt: &HostRuntime, input: &mut [u8; 300000]) {
+    answer_text(Console::of(rt), rt.stdin(), input);
 }
 
 // Reads the input, gives its last line a newline, and answers each line. Standard error says where the input can't be read, or
 // is too long.
-fn answer_text(input: &mut [u8]) {
-    let filled = reread::fill(STDIN_FILENO, input, 0);
+fn answer_text(console: Console, mut from: Stdin, input: &mut [u8]) {
+    let filled = reread::fill(console, &mut from, input, 0);
     if filled.failed {
         return;
     }
     let count = filled.count;
     if count < input.len() {
         input[count] = b'\n';
-        answer_with_buffers(part(input, 0, count + 1));
+        answer_with_buffers(console, part(input, 0, count + 1));
     } else {
-        reports::say(b"the input is too long: 299999 bytes at most\n");
+        reports::say(console, b"the input is too long: 299999 bytes at most\n");
     }
 }
 
-fn answer_with_buffers(text: &[u8]) {
+fn answer_with_buffers(console: Console, text: &[u8]) {
     let mut held = [0u8; 70000];
     let mut list = [0u32; 65536];
     let mut out = [0u8; 20000];
-    answer_over(text, &mut held, &mut list, &mut out);
+    answer_over(console, text, &mut held, &mut list, &mut out);
 }
 
 fn answer_over(
+    console: Console,
     text: &[u8],
     held: &mut [u8; 70000],
     list: &mut [u32; 65536],
     out: &mut [u8; 20000],
 ) {
-    answer_lines(text, held, list, out);
+    answer_lines(console, text, held, list, out);
 }
 
-fn answer_lines(text: &[u8], held: &mut [u8], list: &mut [u32], out: &mut [u8]) {
+fn answer_lines(console: Console, text: &[u8], held: &mut [u8], list: &mut [u32], out: &mut [u8]) {
     let mut place = put_bytes(out, 0, &LEGEND);
     let mut start = 0;
     let mut i = 0;
     while i < text.len() {
         let end = line_end(text, start);
         if end == NOWHERE {
-            flushed(out, place);
+            flushed(console, out, place);
             return;
         }
-        place = answer_line(part(text, start, end), held, list, out, place);
+        place = answer_line(console, part(text, start, end), held, list, out, place);
         start = end;
         i = i + 1;
     }
-    flushed(out, place);
+    flushed(console, out, place);
 }
 
 // The position after the newline that ends the line at a position.
@@ -88,6 +89,7 @@ fn line_end(text: &[u8], at: usize) -> usize {
 
 // An empty line has no answer.
 fn answer_line(
+    console: Console,
     line: &[u8],
     held: &mut [u8],
     list: &mut [u32],
@@ -105,5 +107,5 @@ fn answer_line(
             b"no image: image SIZE held HELD, or image SIZE held HELD check OPTION ..\n",
         );
     }
-    showing::show(asked, part(held, 0, asked.units), list, out, place)
+    showing::show(console, asked, part(held, 0, asked.units), list, out, place)
 }

@@ -2,19 +2,27 @@
 use crate::asking::{Asked, units_of};
 use crate::blocks::{put_blocks, put_number};
 use crate::picture::put_picture;
+use output::Console;
 use placing::put_bytes;
 use plan_checking::check;
 use planning::plan;
 use refusal::{Outcome, Refusal, Written};
 
 // Shows the plan that is given, or else ours.
-pub fn show(asked: Asked, held: &[u8], list: &mut [u32], out: &mut [u8], place: usize) -> usize {
+pub fn show(
+    console: Console,
+    asked: Asked,
+    held: &[u8],
+    list: &mut [u32],
+    out: &mut [u8],
+    place: usize,
+) -> usize {
     let next = put_image(asked.size, held, out, place);
     let count = count_of(asked, held, list);
     if list.len() < count {
         return put_refused(Refusal::BadPlan, out, next);
     }
-    show_plan(asked.size, held, &list[0..count], out, next)
+    show_plan(console, asked.size, held, &list[0..count], out, next)
 }
 
 // How many values the plan has: those given, or those that our planner writes.
@@ -28,22 +36,29 @@ fn count_of(asked: Asked, held: &[u8], list: &mut [u32]) -> usize {
     }
 }
 
-fn show_plan(size: usize, held: &[u8], values: &[u32], out: &mut [u8], place: usize) -> usize {
+fn show_plan(
+    console: Console,
+    size: usize,
+    held: &[u8],
+    values: &[u32],
+    out: &mut [u8],
+    place: usize,
+) -> usize {
     match check(size, held, values) {
         Outcome::Refused(why) => put_refused(why, out, place),
         Outcome::Done => {
             let next = put_picture(held, values, out, place);
-            let next = put_plan(size, values, out, next);
+            let next = put_plan(console, size, values, out, next);
             put_bytes(out, next, b"accepted\n")
         }
     }
 }
 
-fn put_plan(size: usize, values: &[u32], out: &mut [u8], place: usize) -> usize {
+fn put_plan(console: Console, size: usize, values: &[u32], out: &mut [u8], place: usize) -> usize {
     if values.len() == 0 {
         return put_bytes(out, place, b"no block\n");
     }
-    put_blocks(size, values, out, place)
+    put_blocks(console, size, values, out, place)
 }
 
 fn put_refused(why: Refusal, out: &mut [u8], place: usize) -> usize {

@@ -9,6 +9,7 @@ mod shown;
 mod tallies;
 
 use messages::{Work, pass};
+use output::Console;
 use placing::put_bytes;
 use refusal::Outcome;
 use reports::flushed;
@@ -18,54 +19,61 @@ use tallies::Tally;
 use tracing::form_of;
 use words::part;
 
-fn main() {
+fn main(rt: HostRuntime) {
     let mut window = [0u8; 65536];
     let mut out = [0u8; 65536];
-    replay_over(&mut window, &mut out);
+    replay_over(&rt, &mut window, &mut out);
 }
 
-fn replay_over(window: &mut [u8; 65536], out: &mut [u8; 65536]) {
-    let input = reread::standard();
-    if 0 <= input.fd {
-        replay(input, window, out);
+fn replay_over(rt: &HostRuntime, window: &mut [u8; 65536], out: &mut [u8; 65536]) {
+    let console = Console::of(rt);
+    if let Some(input) = reread::standard(rt, console) {
+        replay(console, &input, window, out);
     }
 }
 
 // Judges the trace, and replays it where it is one.
-fn replay(input: Input, window: &mut [u8], out: &mut [u8]) {
-    let front = reread::front(input, window);
+fn replay(console: Console, input: &Input, window: &mut [u8], out: &mut [u8]) {
+    let front = reread::front(console, input, window);
     if front.failed {
         return;
     }
     let form = form_of(part(window, 0, front.count));
-    let judged = pass(input, form, Work::Judge, window, out);
+    let judged = pass(console, input, form, Work::Judge, window, out);
     let walk = judged.walk;
     let outcome = walk.outcome;
     match outcome {
-        Outcome::Refused(_) => report(judged, 0, out),
-        Outcome::Done => show(input, form, walk.failed, window, out),
+        Outcome::Refused(_) => report(console, judged, 0, out),
+        Outcome::Done => show(console, input, form, walk.failed, window, out),
     }
 }
 
 // Replays a trace that was judged.
-fn show(input: Input, form: Form, failed: bool, window: &mut [u8], out: &mut [u8]) {
+fn show(
+    console: Console,
+    input: &Input,
+    form: Form,
+    failed: bool,
+    window: &mut [u8],
+    out: &mut [u8],
+) {
     if failed {
         return;
     }
-    let replayed = pass(input, form, Work::Replay, window, out);
+    let replayed = pass(console, input, form, Work::Replay, window, out);
     let place = shown::put_tally(out, replayed);
-    report(replayed, place, out);
+    report(console, replayed, place, out);
 }
 
 // The verdict, as the last line; nothing where reading or writing failed, of which standard error has a line.
-fn report(tally: Tally, at: usize, out: &mut [u8]) {
+fn report(console: Console, tally: Tally, at: usize, out: &mut [u8]) {
     let walk = tally.walk;
     if walk.failed {
         return;
     }
     let outcome = walk.outcome;
     let place = put_verdict(outcome, walk.refused, at, out);
-    flushed(out, place);
+    flushed(console, out, place);
 }
 
 fn put_verdict(outcome: Outcome, refused: u64, at: usize, out: &mut [u8]) -> usize {

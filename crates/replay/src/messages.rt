@@ -3,6 +3,7 @@
 use crate::shown::put_message;
 use crate::tallies::Tally;
 use hearing::{Heard, TABLE_SIZE, hear};
+use output::Console;
 use refusal::Outcome;
 use reports::progress;
 use reread::{Input, View, viewed};
@@ -25,19 +26,27 @@ pub enum Work {
 
 // Passes over the whole trace, from a table whose places are all unused. What is shown goes to the output, which is written as it
 // fills.
-pub fn pass(input: Input, form: Form, work: Work, window: &mut [u8], out: &mut [u8]) -> Tally {
-    if !reread::rewound(input) {
+pub fn pass(
+    console: Console,
+    input: &Input,
+    form: Form,
+    work: Work,
+    window: &mut [u8],
+    out: &mut [u8],
+) -> Tally {
+    if !reread::rewound(console, input) {
         return Tally::start().failing();
     }
     let mut table = [0u8; TABLE_SIZE];
-    let tally = take_all(input.fd, form, work, window, &mut table, out);
+    let tally = take_all(console, input, form, work, window, &mut table, out);
     let walk = tally.walk;
-    tally.walked(walk.finished(out))
+    tally.walked(walk.finished(console, out))
 }
 
 // Takes message after message, as far as a limit that no trace reaches.
 fn take_all(
-    fd: i32,
+    console: Console,
+    input: &Input,
     form: Form,
     work: Work,
     window: &mut [u8],
@@ -50,7 +59,7 @@ fn take_all(
         if !tally.more() {
             return tally;
         }
-        tally = take_next(fd, form, work, tally, window, table, out);
+        tally = take_next(console, input, form, work, tally, window, table, out);
         left = left - 1;
     }
     tally
@@ -58,7 +67,8 @@ fn take_all(
 
 // Takes the next message; the pass ends where there is none, or where reading failed.
 fn take_next(
-    fd: i32,
+    console: Console,
+    input: &Input,
     form: Form,
     work: Work,
     tally: Tally,
@@ -66,7 +76,7 @@ fn take_next(
     table: &mut [u8],
     out: &mut [u8],
 ) -> Tally {
-    let view = next_view(fd, window, tally.view);
+    let view = next_view(console, input, window, tally.view);
     let tally = tally.viewing(view);
     if view.failed {
         return tally.failing();
@@ -75,6 +85,7 @@ fn take_next(
         return tally.ending();
     }
     take_message(
+        console,
         form,
         work,
         tally,
@@ -86,15 +97,16 @@ fn take_next(
 }
 
 // The next message whole in view, and a line on how far the pass is when the window was filled again.
-fn next_view(fd: i32, window: &mut [u8], before: View) -> View {
-    let view = viewed(fd, window, before, MOST);
+fn next_view(console: Console, input: &Input, window: &mut [u8], before: View) -> View {
+    let view = viewed(console, input, window, before, MOST);
     if view.windows != before.windows {
-        progress(b"passed over ", view.windows);
+        progress(console, b"passed over ", view.windows);
     }
     view
 }
 
 fn take_message(
+    console: Console,
     form: Form,
     work: Work,
     tally: Tally,
@@ -108,7 +120,7 @@ fn take_message(
         Work::Replay => {
             let heard = hear_message(tally, arrival_at(form, window, at), table, out);
             let walk = heard.walk;
-            heard.walked(walk.spilling(out))
+            heard.walked(walk.spilling(console, out))
         }
     }
 }

@@ -2,9 +2,10 @@
 #![tactic(auto)]
 
 use decimal::put_decimal;
-use libc::{STDERR_FILENO, STDOUT_FILENO};
+use output::Console;
 use placing::{put_byte, put_bytes};
 use refusal::Refusal;
+use std::io::IsTerminal;
 use words::{part, place_in};
 
 // The names of the refusals in the order of their numbers from 1, with a semicolon after each; 18 has none.
@@ -41,8 +42,8 @@ pub fn put_number(out: &mut [u8], at: usize, text: &[u8], number: u64) -> usize 
 }
 
 // Writes a line to standard error.
-pub fn say(line: &[u8]) {
-    io::write_all(STDERR_FILENO, line);
+pub fn say(console: Console, line: &[u8]) {
+    console.say(line);
 }
 
 // The place that follows in an output, and whether writing it failed.
@@ -53,7 +54,7 @@ pub struct Spilled {
 }
 
 // Writes the output up to a place if half of it is full.
-pub fn spill(out: &[u8], place: usize) -> Spilled {
+pub fn spill(console: Console, out: &[u8], place: usize) -> Spilled {
     if place < out.len() / 2 {
         return Spilled {
             place,
@@ -62,29 +63,25 @@ pub fn spill(out: &[u8], place: usize) -> Spilled {
     }
     Spilled {
         place: 0,
-        failed: !flushed(out, place),
+        failed: !flushed(console, out, place),
     }
 }
 
 // Writes the output up to a place. Where that fails, standard error says why.
-pub fn flushed(out: &[u8], place: usize) -> bool {
-    if io::write_all(STDOUT_FILENO, part(out, 0, place)) {
-        return true;
-    }
-    os::fail(b"writing the output");
-    false
+pub fn flushed(console: Console, out: &[u8], place: usize) -> bool {
+    console.write(part(out, 0, place))
 }
 
 // Says how far a long piece of work is, every 256 windows of 64 KiB, if somebody watches: standard error is a terminal.
-pub fn progress(what: &[u8], windows: u64) {
+pub fn progress(console: Console, what: &[u8], windows: u64) {
     if windows == 0 || windows % 256 != 0 {
         return;
     }
-    if libc::isatty(STDERR_FILENO) != 1 {
+    if !console.errors.is_terminal() {
         return;
     }
     let mut line = [0u8; 100];
     let next = put_number(&mut line, 0, what, windows / 16);
     let next = put_bytes(&mut line, next, b" MiB\n");
-    say(part(&line, 0, next));
+    say(console, part(&line, 0, next));
 }

@@ -4,81 +4,148 @@
 
 ghost use Rattle.std.specs.Prelude.{◌+◌};
 
-use libc::{SEEK_CUR, SEEK_SET, STDIN_FILENO};
+use output::Console;
+use std::fs::{File, OpenOptions};
+use std::io::{ErrorKind, Read, Seek, SeekFrom, Write};
+use std::os::fd::AsFd;
+use std::os::unix::fs::OpenOptionsExt;
+use std::{fs, io, process};
 
-// A descriptor and the position that its bytes begin at. It is below 0 where there is none, and standard error says why.
-#[derive(Clone, Copy)]
+// A file and the position that its bytes begin at.
+#[derive(Drop)]
 pub struct Input {
-    pub fd: i32,
-    pub start: i64,
+    pub file: File,
+    pub start: u64,
 }
 
-// Standard input, at any size. One that is closed isn't taken for an empty one: the copy would get its number.
-pub fn standard() -> Input {
-    let start = libc::lseek(STDIN_FILENO, 0, SEEK_CUR);
-    if start < 0 {
-        return Input {
-            fd: copied_if_open(),
-            start: 0,
-        };
+// Standard input, at any size. There is none where it is closed or can't be copied, and standard error says why.
+pub fn standard(rt: &HostRuntime, console: Console) -> Option<Input> {
+    if !is_open(rt, console) {
+        return None;
     }
-    Input {
-        fd: STDIN_FILENO,
-        start,
+    match opened(rt) {
+        Some(input) => Some(input),
+        None => copied(rt, console),
     }
+}
+
+// Whether standard input is open. One that is closed isn't taken for an empty one: the copy would get its number.
+fn is_open(rt: &HostRuntime, console: Console) -> bool {
+    match rt.stdin().as_fd().try_clone_to_owned() {
+        Ok(_) => true,
+        Err(why) => {
+            output::input_failed(console, why);
+            false
+        }
+    }
+}
+
+// The file that standard input is, opened a second time, and the position that standard input has in it. Only a regular file is
+// opened, since opening a pipe can wait for one who writes to it.
+fn opened(rt: &HostRuntime) -> Option<Input> {
+    let met = fs::metadata(rt, "/proc/self/fd/0").ok()?;
+    if !met.is_file() {
+        return None;
+    }
+    let start = position(rt)?;
+    let file = File::open(rt, "/proc/self/fd/0").ok()?;
+    Some(Input { file, start })
+}
+
+// The position of standard input, as the system tells it: its first line is pos: and the number.
+fn position(rt: &HostRuntime) -> Option<u64> {
+    let told = fs::read_to_string(rt, "/proc/self/fdinfo/0").ok()?;
+    let line = told.as_str().lines().next()?;
+    line.strip_prefix("pos:")?.trim().parse::<u64>().ok()
 }
 
 // Goes back to where the input begins.
-pub fn rewound(input: Input) -> bool {
-    if libc::lseek(input.fd, input.start, SEEK_SET) < 0 {
-        os::fail(b"going back in the input");
-        return false;
+pub fn rewound(console: Console, input: &Input) -> bool {
+    let mut file = &input.file;
+    match file.seek(SeekFrom::Start(input.start)) {
+        Ok(_) => true,
+        Err(why) => {
+            console.failed("going back in the input", why);
+            false
+        }
     }
-    true
 }
 
-fn copied_if_open() -> i32 {
-    if os::errno() == libc::EBADF {
-        os::fail(b"reading the input");
-        return -1;
-    }
-    copied()
+// How many names for a copy are tried.
+const NAMES: u32 = 1000000;
+
+// A new file in /tmp, which is open for writing.
+#[derive(Drop)]
+struct Temporary {
+    name: String,
+    file: File,
 }
 
-// A copy of standard input, as a descriptor.
-fn copied() -> i32 {
-    let mut name = *b"/tmp/rickwinter-XXXXXX";
-    let fd = os::create_temp(&mut name);
-    if fd < 0 {
-        os::fail(b"making a file in /tmp for a copy of the input");
-        return fd;
+// Makes a file in /tmp that only its owner reads and writes.
+fn create_temp(rt: &HostRuntime) -> io::Result<Temporary> {
+    let id = process::id(rt.process());
+    for i in 0..NAMES {
+        let name = format!(in rt.alloc(); "/tmp/rickwinter-{id}-{i}")?;
+        let made = OpenOptions::new()
+            .write(true)
+            .create_new(true)
+            .mode(0o600)
+            .open(rt, name.as_str());
+        match made {
+            Ok(file) => return Ok(Temporary { name, file }),
+            Err(why) => {
+                if why.kind() != ErrorKind::AlreadyExists {
+                    return Err(why);
+                }
+            }
+        }
     }
-    os::unlink(&name);
-    if copy_all(fd) {
-        return fd;
-    }
-    -1
+    Err(io::Error::from(ErrorKind::AlreadyExists))
 }
 
-// Copies standard input to its end. The turns count down from a number that no input reaches.
-fn copy_all(fd: i32) -> bool {
-    let mut piece = io::large_buffer();
-    let mut left: u64 = 1000000000000000;
-    while 0 < left {
-        let got = libc::read(STDIN_FILENO, &mut piece);
-        if got < 0 {
-            os::fail(b"reading the input");
-            return false;
+// A copy of standard input.
+fn copied(rt: &HostRuntime, console: Console) -> Option<Input> {
+    match unnamed(rt) {
+        Ok((file, mut copy)) => {
+            if copy_all(rt, console, &mut copy) {
+                return Some(Input { file, start: 0 });
+            }
+            None
         }
-        let count = io::count(got, &piece);
-        if count == 0 {
-            return true;
+        Err(why) => {
+            console.failed("making a file in /tmp for a copy of the input", why);
+            None
         }
-        if !io::write_all(fd, &piece[..count]) {
-            os::fail(b"writing a copy of the input in /tmp");
-            return false;
+    }
+}
+
+// A new file with no name, open for reading, and for writing. They are two, so that the second is closed once the copy is made: it may
+// have the number of a standard output that is closed.
+fn unnamed(rt: &HostRuntime) -> io::Result<(File, File)> {
+    let Temporary { name, file: copy } = create_temp(rt)?;
+    let opened = File::open(rt, name.as_str());
+    fs::remove_file(rt, name.as_str())?;
+    Ok((opened?, copy))
+}
+
+// Copies standard input to its end. The turns count up to a number that no input reaches.
+fn copy_all(rt: &HostRuntime, console: Console, copy: &mut File) -> bool {
+    let mut piece = [0u8; 65536];
+    let mut from = rt.stdin();
+    for _ in 0..1000000000000000u64 {
+        match from.read(&mut piece) {
+            Err(why) => {
+                output::input_failed(console, why);
+                return false;
+            }
+            Ok(0) => return true,
+            Ok(count) => {
+                if let Err(why) = copy.write_all(&piece[..count]) {
+                    console.failed("writing a copy of the input in /tmp", why);
+                    return false;
+                }
+            }
         }
-        left = left - 1;
     }
     true
 }
@@ -92,27 +159,27 @@ pub struct Filled {
 }
 
 // Reads until the window is full behind what waits at its start, or the input ends.
-pub fn fill(fd: i32, window: &mut [u8], waiting: usize) -> Filled {
+pub fn fill<R: Read>(console: Console, from: &mut R, window: &mut [u8], waiting: usize) -> Filled {
     let mut count = waiting;
     while count < window.len() {
-        let got = libc::read(fd, &mut window[count..]);
-        if got < 0 {
-            os::fail(b"reading the input");
-            return Filled {
-                count,
-                ended: true,
-                failed: true,
-            };
+        match from.read(&mut window[count..]) {
+            Err(why) => {
+                output::input_failed(console, why);
+                return Filled {
+                    count,
+                    ended: true,
+                    failed: true,
+                };
+            }
+            Ok(0) => {
+                return Filled {
+                    count,
+                    ended: true,
+                    failed: false,
+                };
+            }
+            Ok(more) => count = count + more,
         }
-        let more = io::count(got, &window[count..]);
-        if more == 0 {
-            return Filled {
-                count,
-                ended: true,
-                failed: false,
-            };
-        }
-        count = count + more;
     }
     Filled {
         count,
@@ -122,9 +189,9 @@ pub fn fill(fd: i32, window: &mut [u8], waiting: usize) -> Filled {
 }
 
 // Fills the window from where the input begins.
-pub fn front(input: Input, window: &mut [u8]) -> Filled {
-    if rewound(input) {
-        return fill(input.fd, window, 0);
+pub fn front(console: Console, input: &Input, window: &mut [u8]) -> Filled {
+    if rewound(console, input) {
+        return fill(console, &mut &input.file, window, 0);
     }
     Filled {
         count: 0,
@@ -178,12 +245,18 @@ impl View {
 
 // The same with at least so many bytes in view, or all that the input has left: where they aren't, what is in view goes to the front
 // of the window, and the rest of it is filled.
-pub fn viewed(fd: i32, window: &mut [u8], view: View, least: usize) -> View {
+pub fn viewed(
+    console: Console,
+    input: &Input,
+    window: &mut [u8],
+    view: View,
+    least: usize,
+) -> View {
     if view.has(least) {
         return view;
     }
     let waiting = moving::move_to_front(window, view.start, view.end);
-    let filled = fill(fd, window, waiting);
+    let filled = fill(console, &mut &input.file, window, waiting);
     View {
         start: 0,
         end: filled.count,

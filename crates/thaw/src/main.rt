@@ -3,6 +3,7 @@
 // stream is read twice, so it may be of any length; from a pipe it is first copied to /tmp, and the room there bounds it.
 #![tactic(auto)]
 
+use output::Console;
 use passes::{Work, form_of, pass};
 use placing::put_bytes;
 use refusal::Outcome;
@@ -12,45 +13,52 @@ use stream::Form;
 use walks::Walk;
 use words::part;
 
-fn main() {
+fn main(rt: HostRuntime) {
     let mut window = [0u8; 65536];
     let mut out = [0u8; 65536];
-    thaw_over(&mut window, &mut out);
+    thaw_over(&rt, &mut window, &mut out);
 }
 
-fn thaw_over(window: &mut [u8; 65536], out: &mut [u8; 65536]) {
-    let input = reread::standard();
-    if 0 <= input.fd {
-        thaw(input, window, out);
+fn thaw_over(rt: &HostRuntime, window: &mut [u8; 65536], out: &mut [u8; 65536]) {
+    let console = Console::of(rt);
+    if let Some(input) = reread::standard(rt, console) {
+        thaw(console, &input, window, out);
     }
 }
 
 // Judges the stream, and shows it where it is one.
-fn thaw(input: Input, window: &mut [u8], out: &mut [u8]) {
-    let front = reread::front(input, window);
+fn thaw(console: Console, input: &Input, window: &mut [u8], out: &mut [u8]) {
+    let front = reread::front(console, input, window);
     if front.failed {
         return;
     }
     let form = form_of(part(window, 0, front.count));
-    let judged = pass(input, form, Work::Judge, window, out);
+    let judged = pass(console, input, form, Work::Judge, window, out);
     let outcome = judged.outcome;
     match outcome {
-        Outcome::Refused(_) => report(judged, out),
-        Outcome::Done => show(input, form, judged, window, out),
+        Outcome::Refused(_) => report(console, judged, out),
+        Outcome::Done => show(console, input, form, judged, window, out),
     }
 }
 
 // Shows a stream that was judged.
-fn show(input: Input, form: Form, judged: Walk, window: &mut [u8], out: &mut [u8]) {
+fn show(
+    console: Console,
+    input: &Input,
+    form: Form,
+    judged: Walk,
+    window: &mut [u8],
+    out: &mut [u8],
+) {
     if judged.failed {
         return;
     }
     let place = put_form(form, judged.messages, out);
-    if !flushed(out, place) {
+    if !flushed(console, out, place) {
         return;
     }
-    let shown = pass(input, form, Work::Show, window, out);
-    report(shown, out);
+    let shown = pass(console, input, form, Work::Show, window, out);
+    report(console, shown, out);
 }
 
 // form old
@@ -65,12 +73,12 @@ fn put_form(form: Form, messages: u64, out: &mut [u8]) -> usize {
 }
 
 // The verdict, as the last line; nothing where reading or writing failed, of which standard error has a line.
-fn report(walk: Walk, out: &mut [u8]) {
+fn report(console: Console, walk: Walk, out: &mut [u8]) {
     if walk.failed {
         return;
     }
     let place = put_verdict(walk, out);
-    flushed(out, place);
+    flushed(console, out, place);
 }
 
 fn put_verdict(walk: Walk, out: &mut [u8]) -> usize {

@@ -1,6 +1,7 @@
 // How far a pass over an input has come, message by message through a window.
 #![tactic(auto)]
 
+use output::Console;
 use refusal::{Outcome, Refusal};
 use reports::{flushed, spill};
 
@@ -112,10 +113,10 @@ impl Walk {
     }
 
     // The output is written once half of it is full.
-    pub fn spilling(self, out: &[u8]) -> Walk {
+    pub fn spilling(self, console: Console, out: &[u8]) -> Walk {
         let place = self.place;
         let outcome = self.outcome;
-        let spilled = spill(out, place);
+        let spilled = spill(console, out, place);
         Walk {
             messages: self.messages,
             outcome,
@@ -133,10 +134,10 @@ impl Walk {
     }
 
     // The rest of the output is written.
-    pub fn finished(self, out: &[u8]) -> Walk {
+    pub fn finished(self, console: Console, out: &[u8]) -> Walk {
         let place = self.place;
         let outcome = self.outcome;
-        let failed = !flushed(out, place);
+        let failed = !flushed(console, out, place);
         Walk {
             messages: self.messages,
             outcome,
