@@ -1,10 +1,11 @@
 -- Every listing fits into 135,000 bytes, so what is put is all of it.
 use Prim.Native.Nat.{ℕ, ◌≤◌}
-use mathlib.Core.Path.{◌≡◌, ap}
+use mathlib.Core.Path.{◌≡◌, sym, ap}
 use mathlib.Core.Bool.{true}
 use mathlib.Core.List.{List, []}
 use native.Mathlib.Omega.{arith}
 use lib.ListN.{length, take}
+use Rattle.std.proofs.lemmas.List.{length-take-le}
 use Rattle.rfc.specs.Message.{WellFormed, layout}
 use Rattle.ground.specs.Part.{Bytes}
 use Rattle.ground.proofs.Choice.{on_lt}
@@ -34,5 +35,7 @@ listing_size s b =
     (λ h. answer_size s h (reading true s) (accepted s b))
 
 -- What `list` promises, from what putting the listing leaves.
-pub promised : {l m : List ℕ} {r : ℕ} (s : List ℕ) → Bytes s → 135000 ≤ length l → Puts l 0 (listing s) r m → (r ≤ length m) × (take r m ≡ listing s)
-promised s b room p = (puts_within p (omega arith), puts_front p (omega (arith, listing_size s b)))
+pub promised : {l m : List ℕ} {r : ℕ} (s : List ℕ) → Bytes s → 135000 ≤ length l → Puts l 0 (listing s) r m → ((r ≤ length m) × (r ≡ length (take r m))) × (take r m ≡ listing s)
+promised s b room p =
+    let w = puts_within p (omega arith) in
+    ((w, sym (length-take-le _ _ w)), puts_front p (omega (arith, listing_size s b)))

@@ -11,7 +11,7 @@ use words::part;
 // Puts the lines of a datagram at the start of the output, which has room for those of every datagram, and answers how many
 // bytes they are.
 fn list(datagram: &[u8], out: &mut [u8; 135000]) -> usize
-    ensures prefix_len { result ≤ length out.new }
+    ensures prefix_len { (result ≤ length out.new) × (result ≡ length (take result out.new)) }
     ensures out_after { take result out.new ≡ listing datagram.now }
 {
     if 65535 < datagram.len() {

@@ -124,7 +124,7 @@ fn copied(rt: &HostRuntime, console: Console) -> Option<Input> {
 fn unnamed(rt: &HostRuntime) -> io::Result<(File, File)> {
     let Temporary { name, file: copy } = create_temp(rt)?;
     let opened = File::open(rt, name.as_str());
-    fs::remove_file(rt, name.as_str())?;
+    let _ = fs::remove_file(rt, name.as_str());
     Ok((opened?, copy))
 }
 
