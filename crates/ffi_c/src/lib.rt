@@ -2,15 +2,15 @@
 // its name there, and promises what that one does.
 #![tactic(auto)]
 
-ghost use Rattle.std.specs.Prelude.{◌≡◌, [], ◌≤◌, length, take};
-ghost use Rattle.refusal.specs.Answer.{written, outcome, after, fitted};
+ghost use Rattle.std.specs.Prelude.{◌≡◌, [], length};
+ghost use Rattle.refusal.specs.Answer.{after};
 ghost use Rattle.packet.specs.Packet.{stores};
 ghost use Rattle.reading.specs.Reading.{reading};
 ghost use Rattle.writing.specs.Writing.{bytes_written};
 ghost use Rattle.flat.specs.Flat.{flat};
 ghost use Rattle.flat_writing.specs.FlatWriting.{packet_of, packet_over, copying};
 ghost use Rattle.ffi.specs.Handed.{handed, number_in};
-ghost use Rattle.ffi.specs.Copied.{length_in, sent_end};
+ghost use Rattle.ffi.specs.Copied.{length_in};
 
 // The version of the flat form.
 #[unsafe(no_mangle)]
