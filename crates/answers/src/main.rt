@@ -25,14 +25,11 @@ fn take_all(console: Console, from: Stdin, input: &mut [u8]) {
         cut: false,
         more: true,
     };
-    let mut left: u64 = 1000000000000000;
-    while 0 < left {
-        if kept.more {
-            kept = take_piece(console, from, kept, input);
-            left = left - 1;
-        } else {
-            left = 0;
+    for _ in 0..u64::MAX {
+        if !kept.more {
+            return;
         }
+        kept = take_piece(console, from, kept, input);
     }
 }
 

@@ -1,10 +1,11 @@
 // The lines of a piece of the input. What they answer is written out with the piece, so that no client waits for an answer
 // while the program waits for a request.
 use crate::requests;
-use output::{Console, flushed, spilled};
-use placing::put_byte;
-use telling::Told;
-use words::{NOWHERE, part};
+use output::{Console, Page};
+use words::Line;
+
+// The longest line that can be a request, with its newline.
+const MAX_LINE: usize = 200001;
 
 // What goes on from one piece of the input to the next.
 #[derive(Clone, Copy)]
@@ -34,6 +35,7 @@ pub fn answer(console: Console, kept: Kept, piece: &[u8]) -> Kept {
     answer_over(console, kept, piece, &mut store, &mut room, &mut out)
 }
 
+// The same over buffers that are lent: where they are made, the check would tell each of their bytes.
 fn answer_over(
     console: Console,
     kept: Kept,
@@ -42,90 +44,42 @@ fn answer_over(
     room: &mut [u8; 71000],
     out: &mut [u8; 600000],
 ) -> Kept {
-    answer_lines(console, kept, piece, store, room, out)
+    let mut page = Page::new(console, out);
+    answer_lines(kept, piece, store, room, &mut page)
 }
 
 fn answer_lines(
-    console: Console,
     kept: Kept,
     piece: &[u8],
     store: &mut [u8],
     room: &mut [u8],
-    out: &mut [u8],
+    page: &mut Page,
 ) -> Kept {
-    let mut place = 0;
     let mut cut = kept.cut;
     let mut start = 0;
-    let mut i = 0;
-    while i < piece.len() {
-        let end = line_end(piece, start);
-        if end == NOWHERE {
-            return written(console, start, cut, out, place);
+    for (i, byte) in piece.iter().enumerate() {
+        if *byte == b'\n' {
+            let line = piece.get(start..=i).unwrap_or(b"");
+            answer_line(cut, line, store, room, page);
+            cut = false;
+            start = i + 1;
         }
-        place = answer_line(
-            console,
-            cut,
-            part(piece, start, end),
-            store,
-            room,
-            out,
-            place,
-        );
-        cut = false;
-        start = end;
-        i = i + 1;
     }
-    written(console, start, cut, out, place)
-}
-
-// Writes the answers of a piece.
-fn written(console: Console, waiting: usize, cut: bool, out: &[u8], place: usize) -> Kept {
+    page.flush();
     Kept {
-        waiting,
+        waiting: start,
         cut,
-        more: flushed(console, out, place) != NOWHERE,
+        more: !page.has_failed(),
     }
 }
 
-// The position after the newline that ends the line at a position.
-fn line_end(piece: &[u8], at: usize) -> usize {
-    let mut i = at;
-    while i < piece.len() {
-        if piece[i] == b'\n' {
-            return i + 1;
-        }
-        i = i + 1;
+// Answers a line. A line that is too long is no request, and neither is one whose start is gone. The output is written once half of it
+// is full: what a line answers in one go fits into the rest.
+fn answer_line(cut: bool, text: &[u8], store: &mut [u8], room: &mut [u8], page: &mut Page) {
+    let mut line = Line::new(text);
+    if cut || MAX_LINE < text.len() || requests::answer(&mut line, store, room, page).is_none() {
+        page.text(b"no request");
     }
-    NOWHERE
-}
-
-// Answers a line. The output is written once half of it is full: what a line answers in one go fits into the rest.
-fn answer_line(
-    console: Console,
-    cut: bool,
-    line: &[u8],
-    store: &mut [u8],
-    room: &mut [u8],
-    out: &mut [u8],
-    place: usize,
-) -> usize {
-    let next = answer_request(console, cut, line, store, room, out, place);
-    let next = put_byte(out, next, b'\n');
-    spilled(console, out, next)
-}
-
-// A line of over 200,000 bytes and its newline is no request, and neither is one whose start is gone.
-fn answer_request(
-    console: Console,
-    cut: bool,
-    line: &[u8],
-    store: &mut [u8],
-    room: &mut [u8],
-    out: &mut [u8],
-    place: usize,
-) -> usize {
-    if cut || 200001 < line.len() {
-        return Told::no_request().put(out, place, line, line);
-    }
-    requests::answer(console, line, store, room, out, place)
+    page.byte(b'\n');
+    page.spill();
 }

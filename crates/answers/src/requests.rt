@@ -1,93 +1,74 @@
 // The request of a line, by its first word.
-use output::Console;
-use telling::Told;
-use words::NOWHERE;
+use output::Page;
+use words::Line;
 
-// Answers the request of a line.
-pub fn answer(
-    console: Console,
-    line: &[u8],
-    store: &mut [u8],
-    room: &mut [u8],
-    out: &mut [u8],
-    place: usize,
-) -> usize {
-    let name = packet_requests::named(line);
-    if name.index != NOWHERE {
-        let reply = packet_requests::answer(name, line, store, room);
-        return reply.put(console, out, place, store, room);
+// Answers the request of a line; None where it is no request.
+pub fn answer(line: &mut Line, store: &mut [u8], room: &mut [u8], page: &mut Page) -> Option<()> {
+    let name = line.name();
+    if let Some(request) = packet_requests::named(name) {
+        return packet_requests::answer(request, line, store, room, page);
     }
-    let name = edit_requests::named(line);
-    if name.index != NOWHERE {
-        return edit_requests::answer(console, line, name.next, store, room, out, place);
+    if edit_requests::is_named(name) {
+        return edit_requests::answer(line, store, room, page);
     }
-    let name = raw_edits::named(line);
-    if name.index != NOWHERE {
-        return raw_edits::answer(console, name, line, store, out, place);
+    if let Some(request) = raw_edits::named(name) {
+        return raw_edits::answer(request, line, store, page);
     }
-    let name = plan_requests::named(line);
-    if name.index != NOWHERE {
-        return plan_requests::answer(name, line, store, out, place);
+    if let Some(request) = plan_requests::named(name) {
+        return plan_requests::answer(request, line, store, page);
     }
-    let name = cursor_requests::named(line);
-    if name.index != NOWHERE {
-        return cursor_requests::answer(name, line, store, out, place);
+    if let Some(request) = cursor_requests::named(name) {
+        return cursor_requests::answer(request, line, store, page);
     }
-    answer_more(line, store, room, out, place)
+    if let Some(request) = building_requests::named(name) {
+        return building_requests::answer(request, line, store, room, page);
+    }
+    answer_more(name, line, store, room, page)
 }
 
-// Answers a request on building, compaction, paths, streams or replays, or one that is answered by value.
+// Answers a request on compaction, paths, streams or replays, or one on values.
 fn answer_more(
-    line: &[u8],
+    name: &[u8],
+    line: &mut Line,
     store: &mut [u8],
     room: &mut [u8],
-    out: &mut [u8],
-    place: usize,
-) -> usize {
-    let name = building_requests::named(line);
-    if name.index != NOWHERE {
-        return building_requests::answer(name, line, store, room, out, place);
+    page: &mut Page,
+) -> Option<()> {
+    if compact_requests::is_named(name) {
+        return compact_requests::answer(line, store, room, page);
     }
-    let name = compact_requests::named(line);
-    if name.index != NOWHERE {
-        return compact_requests::answer(line, name.next, store, room, out, place);
+    if let Some(request) = target_requests::named(name) {
+        return target_requests::answer(request, line, store, room, page);
     }
-    let name = target_requests::named(line);
-    if name.index != NOWHERE {
-        return target_requests::answer(name, line, store, room, out, place);
+    if let Some(request) = stream_requests::named(name) {
+        return stream_requests::answer(request, line, store, room, page);
     }
-    let name = stream_requests::named(line);
-    if name.index != NOWHERE {
-        return stream_requests::answer(name, line, store, room, out, place);
+    if let Some(request) = replay_requests::named(name) {
+        return replay_requests::answer(request, line, store, room, page);
     }
-    let name = replay_requests::named(line);
-    if name.index != NOWHERE {
-        return replay_requests::answer(name, line, store, room, out, place);
-    }
-    answer_value(line, store, room).put(out, place, store, room)
+    answer_value(name, line, store, room, page)
 }
 
-// Answers a request that is answered by value.
-fn answer_value(line: &[u8], store: &mut [u8], room: &mut [u8]) -> Told {
-    let name = value_requests::named(line);
-    if name.index != NOWHERE {
-        return value_requests::answer(name, line, store, room);
+// Answers a request on values, headers, blocks, raw packets or frames.
+fn answer_value(
+    name: &[u8],
+    line: &mut Line,
+    store: &mut [u8],
+    room: &mut [u8],
+    page: &mut Page,
+) -> Option<()> {
+    if let Some(request) = value_requests::named(name) {
+        return value_requests::answer(request, line, store, room, page);
     }
-    let name = header_requests::named(line);
-    if name.index != NOWHERE {
-        return header_requests::answer(name, line, store, room);
+    if let Some(request) = header_requests::named(name) {
+        return header_requests::answer(request, line, store, room, page);
     }
-    let name = block_requests::named(line);
-    if name.index != NOWHERE {
-        return block_requests::answer(name, line, store, room);
+    if let Some(request) = block_requests::named(name) {
+        return block_requests::answer(request, line, store, room, page);
     }
-    let name = raw_writing::named(line);
-    if name.index != NOWHERE {
-        return raw_writing::answer(name, line, store, room);
+    if let Some(request) = raw_writing::named(name) {
+        return raw_writing::answer(request, line, store, room, page);
     }
-    let name = frame_requests::named(line);
-    if name.index != NOWHERE {
-        return frame_requests::answer(name, line, store, room);
-    }
-    Told::no_request()
+    let request = frame_requests::named(name)?;
+    frame_requests::answer(request, line, store, room, page)
 }

@@ -1,35 +1,15 @@
--- Laws of the sizes of a strict block: what a `match` on them says, and what holds of each of them.
+-- Laws of the sizes of a strict block: what holds of each of them.
 use Prim.Native.Nat.{ℕ, ◌<◌}
 use mathlib.Core.Path.{◌≡◌, refl, sym, subst}
-use mathlib.Core.Bool.{Bool, true, false}
+use mathlib.Core.Bool.{Bool, true}
 use mathlib.Core.List.{List, [], ◌∷◌}
-use mathlib.Core.Logic.{inl, inr}
 use native.Mathlib.Omega.{arith}
-use lib.Dec.{T, eqb, ltb, lit<}
-use types.Run.{OneOf}
-use borrow.Author.Tests.{eq-eqb, ne_eqb}
-use Rattle.ground.specs.Choice.{either}
+use lib.Dec.{T, ltb, lit<}
 use Rattle.ground.specs.Table.{listed}
 use Rattle.rfc.specs.Block.{size}
 use Rattle.ground.proofs.Choice.{on_eq}
 use Rattle.block_value.specs.Size.{exponent_of, power_up_to}
 use Rattle.block_value.specs.Strict.{strict_sizes}
-
-or_true : (t : Bool) → either t true ≡ true
-or_true true = refl
-or_true false = refl
-
--- The keys of an arm as a list.
-pub one_listed : (n : ℕ) (xs : List ℕ) → OneOf xs n → listed n xs ≡ true
-one_listed n [] h = absurd h
-one_listed n (x ∷ []) h = rw (eq-eqb n x h) refl
-one_listed n (x ∷ y ∷ ys) (inl e) = rw (eq-eqb n x e) refl
-one_listed n (x ∷ y ∷ ys) (inr h) = rw (one_listed n (y ∷ ys) h) (or_true (eqb n x))
-
-pub none_listed : (n : ℕ) (xs : List ℕ) → (OneOf xs n → ⊥) → listed n xs ≡ false
-none_listed n [] z = refl
-none_listed n (x ∷ []) z = rw (ne_eqb n x z) refl
-none_listed n (x ∷ y ∷ ys) z = rw (ne_eqb n x (λ e. z (inl e))) (none_listed n (y ∷ ys) (λ h. z (inr h)))
 
 -- It holds of every entry.
 abbrev pub All : (ℕ → Type 0) → List ℕ → Type 0

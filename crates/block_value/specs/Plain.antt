@@ -1,11 +1,12 @@
 -- Plain block values (docs/RULES.md, Blocks).
-use Rattle.std.specs.Prelude.{ℕ, ◌%◌, ◌≡◌, Bool, List, eqb, ltb}
+use Rattle.std.specs.Prelude.{ℕ, ◌%◌, ◌≡◌, Bool, List, eqb, ltb, Result}
 use Rattle.ground.specs.Choice.{pick, either}
 use Rattle.rfc.specs.Uint.{uint}
 use Rattle.rfc.specs.Block.{Block, block_number}
 use Rattle.refusal.specs.Answer.{Answer, given, refused, onward, fitted}
 use Rattle.option_value.specs.Uint.{Padded, read_uint}
 use Rattle.block_value.specs.Answers.{block_in, block_read}
+use Rattle.refusal.specs.declared.Refusal.{Refusal}
 use Rattle.block_value.specs.declared.BlockRead.{BlockRead}
 use Rattle.block_value.specs.Size.{exponent_of}
 
@@ -32,5 +33,5 @@ unfoldable pub plain_reading : List ℕ → Answer (Padded Block)
 plain_reading bytes = onward (read_uint 2 bytes) (λ p. given (block_in p))
 
 -- The promise of the plain reader.
-abbrev pub ReadsPlain : List ℕ → BlockRead → Type 0
+abbrev pub ReadsPlain : List ℕ → Result BlockRead Refusal → Type 0
 ReadsPlain bytes r = block_read r ≡ plain_reading bytes

@@ -1,11 +1,12 @@
 -- Strict block values: RFC 7959, section 2.2.
-use Rattle.std.specs.Prelude.{ℕ, ◌≡◌, Bool, List, [], ◌∷◌, eqb, ltb}
+use Rattle.std.specs.Prelude.{ℕ, ◌≡◌, Bool, List, [], ◌∷◌, eqb, ltb, Result}
 use Rattle.ground.specs.Choice.{pick}
 use Rattle.ground.specs.Table.{listed}
 use Rattle.rfc.specs.Block.{Block, block_bytes}
 use Rattle.refusal.specs.Answer.{Answer, given, refused, onward, fitted}
 use Rattle.option_value.specs.Uint.{Padded, read_uint}
 use Rattle.block_value.specs.Answers.{block_in, block_read}
+use Rattle.refusal.specs.declared.Refusal.{Refusal}
 use Rattle.block_value.specs.declared.BlockRead.{BlockRead}
 use Rattle.block_value.specs.Size.{exponent_of}
 
@@ -35,5 +36,5 @@ unfoldable pub strict_reading : List ℕ → Answer (Padded Block)
 strict_reading bytes = onward (read_uint 3 bytes) (λ p. unreserved (block_in p))
 
 -- The promise of the strict reader.
-abbrev pub ReadsStrict : List ℕ → BlockRead → Type 0
+abbrev pub ReadsStrict : List ℕ → Result BlockRead Refusal → Type 0
 ReadsStrict bytes r = block_read r ≡ strict_reading bytes

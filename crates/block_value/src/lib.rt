@@ -10,8 +10,8 @@ ghost use Rattle.block_value.specs.Size.{Floor, exponent_of, size_up_to};
 ghost use Rattle.block_value.specs.Plain.{plain_new, plain_bytes, plain_writing, ReadsPlain};
 ghost use Rattle.block_value.specs.Strict.{strict_sizes, strict_new, strict_writing, ReadsStrict};
 
-use option_value::{OptionValueU16, Uint, option_from_uint, option_to_uint};
-use refusal::{Refusal, Written};
+use option_value::{OptionValue, option_from_uint, option_to_uint};
+use refusal::Refusal;
 
 // The block option value. A strict number has 20 bits, a plain one at most 16.
 #[derive(Clone, Copy)]
@@ -21,25 +21,11 @@ pub struct BlockValue {
     pub size_exponent: u8,
 }
 
-// A block that was built; or why there is none.
+// A block that was read, and how many leading zero bytes its value has.
 #[derive(Clone, Copy)]
-pub enum BlockBuilt {
-    Block(BlockValue),
-    Refused(Refusal),
-}
-
-// A block that was read, and how many leading zero bytes its value has; or why there is none.
-#[derive(Clone, Copy)]
-pub enum BlockRead {
-    Block { block: BlockValue, zeros: usize },
-    Refused(Refusal),
-}
-
-// The size of a block; or why it has none.
-#[derive(Clone, Copy)]
-pub enum BlockSize {
-    Size(usize),
-    Refused(Refusal),
+pub struct BlockRead {
+    pub block: BlockValue,
+    pub zeros: usize,
 }
 
 // The sizes of the exponents 0 to 7.
@@ -47,34 +33,34 @@ const SIZES: [usize; 8] = [16, 32, 64, 128, 256, 512, 1024, 2048];
 
 impl BlockValue {
     // Builds a plain block: the exponent is that of the largest block that is not above the size.
-    pub fn new(num: usize, more: bool, size: usize) -> BlockBuilt
+    pub fn new(num: usize, more: bool, size: usize) -> Result<BlockValue, Refusal>
         ensures { built result ≡ plain_new num more size }
     {
         if size == 0 {
-            return BlockBuilt::Refused(Refusal::BadBlockSize);
+            return Err(Refusal::BadBlockSize);
         }
         if 4095 < size {
-            return BlockBuilt::Refused(Refusal::BadBlockSize);
+            return Err(Refusal::BadBlockSize);
         }
         if 65535 < num {
-            return BlockBuilt::Refused(Refusal::BlockNumber);
+            return Err(Refusal::BlockNumber);
         }
-        BlockBuilt::Block(BlockValue {
+        Ok(BlockValue {
             num: num as u32,
-            more: more,
+            more,
             size_exponent: exponent_of(size),
         })
     }
 
     // The size of a plain block.
-    pub fn size(self) -> BlockSize
+    pub fn size(self) -> Result<usize, Refusal>
         ensures { sized result ≡ size_up_to 7 self.size_exponent }
     {
         size_up_to(7, self.size_exponent)
     }
 
     // Writes the plain value, which has 12 bits of the number and 3 of the exponent.
-    pub fn into_bytes(self, out: &mut [u8]) -> Written
+    pub fn into_bytes(self, out: &mut [u8]) -> Result<usize, Refusal>
         ensures result_value { written result ≡ plain_writing (length out.old) (meant self) }
         ensures out_after { out.new ≡ after (plain_writing (length out.old) (meant self)) 0 (plain_bytes (meant self)) out.old }
     {
@@ -83,74 +69,71 @@ impl BlockValue {
             more: self.more,
             size_exponent: self.size_exponent % 8,
         };
-        OptionValueU16(scalar(kept) as u16).into_bytes(out)
+        OptionValue(scalar(kept) as u16).into_bytes(out)
     }
 
     // Reads a plain value.
-    pub fn try_from(value: &[u8]) -> BlockRead
+    pub fn try_from(value: &[u8]) -> Result<BlockRead, Refusal>
         ensures { ReadsPlain value.now result }
     {
-        match option_to_uint(value, 2) {
-            Uint::Number { number, zeros } => BlockRead::Block {
-                block: block_of(number as u32),
-                zeros,
-            },
-            Uint::Refused(why) => BlockRead::Refused(why),
-        }
+        let read = option_to_uint(value, 2)?;
+        Ok(BlockRead {
+            block: block_of(read.number as u32),
+            zeros: read.zeros,
+        })
     }
 
     // Builds a strict block, of exactly the size.
-    pub fn new_strict(num: usize, more: bool, size: usize) -> BlockBuilt
+    pub fn new_strict(num: usize, more: bool, size: usize) -> Result<BlockValue, Refusal>
         ensures { built result ≡ strict_new num more size }
     {
         if !is_strict_size(size) {
-            return BlockBuilt::Refused(Refusal::BadBlockSize);
+            return Err(Refusal::BadBlockSize);
         }
         if 1048575 < num {
-            return BlockBuilt::Refused(Refusal::BlockNumber);
+            return Err(Refusal::BlockNumber);
         }
-        BlockBuilt::Block(BlockValue {
+        Ok(BlockValue {
             num: num as u32,
-            more: more,
+            more,
             size_exponent: exponent_of(size),
         })
     }
 
     // The size of a strict block.
-    pub fn size_strict(self) -> BlockSize
+    pub fn size_strict(self) -> Result<usize, Refusal>
         ensures { sized result ≡ size_up_to 6 self.size_exponent }
     {
         size_up_to(6, self.size_exponent)
     }
 
     // Writes the strict value.
-    pub fn into_bytes_strict(self, out: &mut [u8]) -> Written
+    pub fn into_bytes_strict(self, out: &mut [u8]) -> Result<usize, Refusal>
         ensures result_value { written result ≡ strict_writing (length out.old) (meant self) }
         ensures out_after { out.new ≡ after (strict_writing (length out.old) (meant self)) 0 (block_bytes (meant self)) out.old }
     {
         if 6 < self.size_exponent {
-            return Written::Refused(Refusal::BadBlockSize);
+            return Err(Refusal::BadBlockSize);
         }
         if 1048575 < self.num {
-            return Written::Refused(Refusal::BlockNumber);
+            return Err(Refusal::BlockNumber);
         }
         option_from_uint(scalar(self) as u64, out)
     }
 
     // Reads a strict value.
-    pub fn try_from_strict(value: &[u8]) -> BlockRead
+    pub fn try_from_strict(value: &[u8]) -> Result<BlockRead, Refusal>
         ensures { ReadsStrict value.now result }
     {
-        match option_to_uint(value, 3) {
-            Uint::Number { number, zeros } => {
-                let block = block_of(number as u32);
-                if block.size_exponent == 7 {
-                    return BlockRead::Refused(Refusal::BadBlockSize);
-                }
-                BlockRead::Block { block, zeros }
-            }
-            Uint::Refused(why) => BlockRead::Refused(why),
+        let read = option_to_uint(value, 3)?;
+        let block = block_of(read.number as u32);
+        if block.size_exponent == 7 {
+            return Err(Refusal::BadBlockSize);
         }
+        Ok(BlockRead {
+            block,
+            zeros: read.zeros,
+        })
     }
 }
 
@@ -184,22 +167,19 @@ fn exponent_of(size: usize) -> u8
 fn is_strict_size(size: usize) -> bool
     ensures { result ≡ listed size strict_sizes }
 {
-    match size {
-        16 | 32 | 64 | 128 | 256 | 512 | 1024 => true,
-        _ => false,
-    }
+    matches!(size, 16 | 32 | 64 | 128 | 256 | 512 | 1024)
 }
 
 // The size of an exponent, none above the largest exponent.
-fn size_up_to(largest: u8, exponent: u8) -> BlockSize
+fn size_up_to(largest: u8, exponent: u8) -> Result<usize, Refusal>
     requires { largest < 8 }
     ensures { sized result ≡ size_up_to largest exponent }
 {
     if largest < exponent {
-        return BlockSize::Refused(Refusal::BadBlockSize);
+        return Err(Refusal::BadBlockSize);
     }
     let i = exponent as usize;
-    BlockSize::Size(SIZES[i])
+    Ok(SIZES[i])
 }
 
 // The option's value as a number.

@@ -1,11 +1,11 @@
 -- A message built call by call in a lent output (docs/RULES.md, Building): what each call answers, in the order of its refusals,
 -- and what it leaves in the output.
-use Rattle.std.specs.Prelude.{ℕ, ◌+◌, ◌-◌, ◌≡◌, Bool, true, false, not, List, [], length, ltb, eqb}
+use Rattle.std.specs.Prelude.{ℕ, ◌+◌, ◌-◌, ◌≡◌, Bool, true, false, not, List, [], length, ltb, eqb, Result, Ok, Err}
 use Rattle.ground.specs.Choice.{pick, both}
 use Rattle.rfc.specs.Message.{Opt, option_layout, payload_layout}
 use Rattle.refusal.specs.Answer.{Answer, given, refused, onward, room_from, after}
 use Rattle.refusal.specs.Number.{number_of}
-use Rattle.refusal.specs.declared.Written.{Written}
+use Rattle.refusal.specs.declared.Refusal.{Refusal}
 use Rattle.class.specs.Class.{byte_of}
 use Rattle.class.specs.declared.MessageClass.{MessageClass}
 use Rattle.class.specs.declared.MessageClass.TheVariants.{Empty, Request, Response, Reserved}
@@ -13,16 +13,14 @@ use Rattle.header.specs.declared.Header.{Header}
 use Rattle.packet.specs.Limits.{max_token, max_value, max_store, max_options}
 use Rattle.laying.specs.Laying.{Lays, head_layout}
 use Rattle.building.specs.declared.Builder.{Builder}
-use Rattle.building.specs.declared.Built.{Built}
-use Rattle.building.specs.declared.Built.TheVariants.{More, Refused}
 
 -- The answer of a call after which the message goes on: the builder for the next.
-abbrev pub built_of : Built → Answer Builder
-built_of (More b) = given b
-built_of (Refused e) = refused (number_of e)
+abbrev pub built_of : Result Builder Refusal → Answer Builder
+built_of (Ok b) = given b
+built_of (Err e) = refused (number_of e)
 
 -- What such a call promises, of its answer and of the output that is lent: the bytes stand at their place, or all is as it was.
-pub record Builds (a : Answer Builder) (at : ℕ) (bytes old : List ℕ) (r : Built) (new : List ℕ) : Type 0 where
+pub record Builds (a : Answer Builder) (at : ℕ) (bytes old : List ℕ) (r : Result Builder Refusal) (new : List ℕ) : Type 0 where
   pub answer : built_of r ≡ a
   pub output : new ≡ after a at bytes old
 
@@ -101,15 +99,15 @@ ending b payload room =
     (room_from room b.at (payload_layout (sent_by b.empty payload)) (b.at + length (payload_layout (sent_by b.empty payload)))))
 
 -- What `Builder::start` promises.
-abbrev pub Starts : Bool → Header → List ℕ → List ℕ → Built → List ℕ → Type 0
+abbrev pub Starts : Bool → Header → List ℕ → List ℕ → Result Builder Refusal → List ℕ → Type 0
 Starts strict h token old r new = Builds (starting strict h token (length old)) 0 (head_layout h token) old r new
 
 -- What `Builder::option` promises.
-abbrev pub Adds : Builder → Opt → List ℕ → Built → List ℕ → Type 0
+abbrev pub Adds : Builder → Opt → List ℕ → Result Builder Refusal → List ℕ → Type 0
 Adds b o old r new = Builds (adding b o (length old)) b.at (option_layout b.before o) old r new
 
 -- What `Builder::payload` promises: marker and payload, and nothing for no payload.
-abbrev pub Ends : Builder → List ℕ → List ℕ → Written → List ℕ → Type 0
+abbrev pub Ends : Builder → List ℕ → List ℕ → Result ℕ Refusal → List ℕ → Type 0
 Ends b payload old r new = Lays (ending b payload (length old)) b.at (payload_layout (sent_by b.empty payload)) old r new
 
 -- The refusal of an option in an empty message in strict mode, by its numbers.

@@ -13,7 +13,7 @@ use class::MessageClass;
 use header::Header;
 use laying::{put_header, put_option, put_payload};
 use packet::limits::{MAX_OPTIONS, MAX_STORE, MAX_TOKEN, MAX_VALUE};
-use refusal::{Outcome, Refusal, Written};
+use refusal::Refusal;
 
 // How far a message has been built.
 #[derive(Clone, Copy)]
@@ -29,117 +29,102 @@ pub struct Builder {
     pub left: usize,
 }
 
-// What a call answers: the builder for the next call, or a refusal.
-#[derive(Clone, Copy)]
-pub enum Built {
-    More(Builder),
-    Refused(Refusal),
-}
-
 impl Builder {
     // Begins a message: header and token at the start of the output.
-    pub fn start(strict: bool, header: Header, token: &[u8], out: &mut [u8]) -> Built
+    pub fn start(
+        strict: bool,
+        header: Header,
+        token: &[u8],
+        out: &mut [u8],
+    ) -> Result<Builder, Refusal>
         ensures { Starts strict header token.now out.old result out.new }
     {
-        match judged_start(strict, header, token.len()) {
-            Outcome::Refused(e) => Built::Refused(e),
-            Outcome::Done => match put_header(out, header, token) {
-                Written::Refused(e) => Built::Refused(e),
-                Written::Length(at) => {
-                    let code = header.code;
-                    let empty = is_empty(strict, code);
-                    Built::More(Builder {
-                        strict,
-                        empty,
-                        before: 0,
-                        at,
-                        left: MAX_OPTIONS,
-                    })
-                }
-            },
-        }
+        judged_start(strict, header, token.len())?;
+        let at = put_header(out, header, token)?;
+        let code = header.code;
+        let empty = is_empty(strict, code);
+        Ok(Builder {
+            strict,
+            empty,
+            before: 0,
+            at,
+            left: MAX_OPTIONS,
+        })
     }
 
     // Adds an option after what was built.
-    pub fn option(self, number: u16, value: &[u8], out: &mut [u8]) -> Built
+    pub fn option(self, number: u16, value: &[u8], out: &mut [u8]) -> Result<Builder, Refusal>
         ensures { Adds self (record { number = number; value = value.now }) out.old result out.new }
     {
         if self.left == 0 {
-            return Built::Refused(Refusal::BadRecord);
+            return Err(Refusal::BadRecord);
         }
         if is_bare(self.strict, self.empty) {
-            return Built::Refused(bare_refusal(self.before, number, value.len()));
+            return Err(bare_refusal(self.before, number, value.len()));
         }
-        match put_option(out, self.at, self.before, number, value) {
-            Written::Refused(e) => Built::Refused(e),
-            Written::Length(n) => Built::More(Builder {
-                strict: self.strict,
-                empty: self.empty,
-                before: number,
-                at: self.at + n,
-                left: self.left - 1,
-            }),
-        }
+        let size = put_option(out, self.at, self.before, number, value)?;
+        Ok(Builder {
+            strict: self.strict,
+            empty: self.empty,
+            before: number,
+            at: self.at + size,
+            left: self.left - 1,
+        })
     }
 
     // Ends the message with its payload: the answer is the length of the whole message.
-    pub fn payload(self, payload: &[u8], out: &mut [u8]) -> Written
+    pub fn payload(self, payload: &[u8], out: &mut [u8]) -> Result<usize, Refusal>
         ensures { Ends self payload.now out.old result out.new }
     {
         if MAX_STORE < payload.len() {
-            return Written::Refused(Refusal::TooLong);
+            return Err(Refusal::TooLong);
         }
         if self.empty {
             return bare_end(self.strict, self.at, payload.len(), out.len());
         }
-        match put_payload(out, self.at, payload) {
-            Written::Refused(e) => Written::Refused(e),
-            Written::Length(n) => Written::Length(self.at + n),
-        }
+        let size = put_payload(out, self.at, payload)?;
+        Ok(self.at + size)
     }
 }
 
 // What is asked of a header and a token of this length before their room: that their fields hold them, then what strict mode asks.
-fn judged_start(strict: bool, header: Header, token: usize) -> Outcome
+fn judged_start(strict: bool, header: Header, token: usize) -> Result<(), Refusal>
     ensures { outcome result ≡ start_judged strict header token }
 {
     if 3 < header.version {
-        return Outcome::Refused(Refusal::BadRecord);
+        return Err(Refusal::BadRecord);
     }
     if (MAX_TOKEN as usize) < token {
-        return Outcome::Refused(Refusal::BadRecord);
+        return Err(Refusal::BadRecord);
     }
     judged_strictly(strict, header, token)
 }
 
 // What strict mode asks: version 1, a token of at most 8 bytes, and none in an empty message.
-fn judged_strictly(strict: bool, header: Header, token: usize) -> Outcome
+fn judged_strictly(strict: bool, header: Header, token: usize) -> Result<(), Refusal>
     ensures { outcome result ≡ strict_start strict header token }
 {
     if !strict {
-        return Outcome::Done;
+        return Ok(());
     }
     if header.version != 1 {
-        return Outcome::Refused(Refusal::WrongVersion);
+        return Err(Refusal::WrongVersion);
     }
     if 8 < token {
-        return Outcome::Refused(Refusal::InvalidTokenLength);
+        return Err(Refusal::InvalidTokenLength);
     }
     let code = header.code;
     if token_carried(code, token) {
-        return Outcome::Refused(Refusal::EmptyCarries);
+        return Err(Refusal::EmptyCarries);
     }
-    Outcome::Done
+    Ok(())
 }
 
 // A token in a message of code 0.00.
 fn token_carried(code: MessageClass, token: usize) -> bool
     ensures { result ≡ token_carried code token }
 {
-    if code.to_byte() != 0 {
-        return false;
-    }
-    0 < token
+    code.to_byte() == 0 && 0 < token
 }
 
 // Whether the code is that of an empty message: to strict each code byte 0, to plain class `Empty` alone.
@@ -149,10 +134,7 @@ fn is_empty(strict: bool, code: MessageClass) -> bool
     if strict {
         return code.to_byte() == 0;
     }
-    match code {
-        MessageClass::Empty => true,
-        _ => false,
-    }
+    matches!(code, MessageClass::Empty)
 }
 
 // An empty message in strict mode takes no option.
@@ -176,14 +158,14 @@ fn bare_refusal(before: u16, number: u16, len: usize) -> Refusal
 }
 
 // The end of an empty message, which puts nothing: strict refuses a payload, plain drops it.
-fn bare_end(strict: bool, at: usize, len: usize, room: usize) -> Written
+fn bare_end(strict: bool, at: usize, len: usize, room: usize) -> Result<usize, Refusal>
     ensures { written result ≡ bare_end strict at len room }
 {
     if is_bare(strict, 0 < len) {
-        return Written::Refused(Refusal::EmptyCarries);
+        return Err(Refusal::EmptyCarries);
     }
     if room < at {
-        return Written::Refused(Refusal::NoRoom);
+        return Err(Refusal::NoRoom);
     }
-    Written::Length(at)
+    Ok(at)
 }

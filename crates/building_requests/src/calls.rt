@@ -1,122 +1,100 @@
 // The calls of a builder in a row, as a line names their arguments.
-use crate::options::{is_none, option_at};
-use building::{Builder, Built};
+use crate::options::{pass_none, read_option};
+use building::Builder;
 use header::Header;
-use refusal::{Outcome, Written};
-use words::{byte_at, part};
+use refusal::Refusal;
+use words::{Line, part};
 
-// Where the token ends in the store and the payload after it, where the list of options begins in the line, and where the
-// line's last word ends.
+// Where the token ends in the store and the payload after it, and the line from its list of options on.
 #[derive(Clone, Copy)]
-pub struct Ends {
+pub struct Given<'a> {
     pub token: usize,
-    pub options: usize,
+    pub options: Line<'a>,
     pub payload: usize,
-    pub next: usize,
 }
 
-// How the calls ended: what the last one answered, which it was, from 0 for the start, and how much those before it built.
+// The call that was refused, from 0 for the start, and how much those before it built.
 #[derive(Clone, Copy)]
-pub struct Ended {
-    pub last: Written,
+pub struct Stopped {
+    pub why: Refusal,
     pub call: usize,
     pub built: usize,
 }
 
-// Makes the calls, up to the first that is refused.
-pub fn build(
-    strict: bool,
-    header: Header,
-    line: &[u8],
-    ends: Ends,
-    store: &mut [u8],
-    room: &mut [u8],
-) -> Ended {
-    match Builder::start(strict, header, part(store, 0, ends.token), room) {
-        Built::Refused(why) => Ended {
-            last: Written::Refused(why),
-            call: 0,
-            built: 0,
-        },
-        Built::More(first) => {
-            let row = added(first, line, ends, store, room);
-            end(row, ends, store, room)
-        }
-    }
-}
-
-// The builder after some options, how the last of their calls ended, and which call comes next or was refused.
+// A builder, and which call comes next.
 #[derive(Clone, Copy)]
 struct Row {
     builder: Builder,
-    last: Outcome,
     call: usize,
 }
 
-// Adds each option, up to the first that is refused.
-fn added(first: Builder, line: &[u8], ends: Ends, store: &mut [u8], room: &mut [u8]) -> Row {
-    if is_none(line, ends.options) {
-        return Row {
-            builder: first,
-            last: Outcome::Done,
-            call: 1,
-        };
+impl Row {
+    // The row that a refusal of its next call ends.
+    fn stopped(self, why: Refusal) -> Stopped {
+        let builder = self.builder;
+        Stopped {
+            why,
+            call: self.call,
+            built: builder.at,
+        }
     }
-    add_all(first, line, ends, store, room)
 }
 
-fn add_all(first: Builder, line: &[u8], ends: Ends, store: &mut [u8], room: &mut [u8]) -> Row {
-    let mut builder = first;
-    let mut next = ends.options;
-    let mut mark = b' ';
-    let mut call = 1;
-    while call < line.len() {
-        let taken = option_at(line, next, mark, store, ends.payload);
-        let value = part(store, ends.payload, taken.end);
-        match builder.option(taken.number, value, room) {
-            Built::Refused(why) => {
-                return Row {
+// Makes the calls, up to the first that is refused; answers the length of the message.
+pub fn build(
+    strict: bool,
+    header: Header,
+    given: Given,
+    store: &mut [u8],
+    room: &mut [u8],
+) -> Result<usize, Stopped> {
+    let builder = match Builder::start(strict, header, part(store, 0, given.token), room) {
+        Ok(builder) => builder,
+        Err(why) => {
+            return Err(Stopped {
+                why,
+                call: 0,
+                built: 0,
+            });
+        }
+    };
+    let row = add_all(builder, given, store, room)?;
+    let payload = part(store, given.token, given.payload);
+    match row.builder.payload(payload, room) {
+        Ok(length) => Ok(length),
+        Err(why) => Err(row.stopped(why)),
+    }
+}
+
+// Adds each option of the list, up to the first that is refused.
+fn add_all(
+    builder: Builder,
+    given: Given,
+    store: &mut [u8],
+    room: &mut [u8],
+) -> Result<Row, Stopped> {
+    let mut row = Row { builder, call: 1 };
+    let mut line = given.options;
+    if pass_none(&mut line).is_some() {
+        return Ok(row);
+    }
+    for call in 1..line.len() {
+        let Some(taken) = read_option(&mut line, call - 1, store, given.payload) else {
+            return Ok(row);
+        };
+        let value = part(store, given.payload, taken.end);
+        match row.builder.option(taken.number, value, room) {
+            Ok(builder) => {
+                row = Row {
                     builder,
-                    last: Outcome::Refused(why),
-                    call,
+                    call: call + 1,
                 };
             }
-            Built::More(more) => {
-                builder = more;
-            }
+            Err(why) => return Err(row.stopped(why)),
         }
-        call = call + 1;
-        next = taken.next;
-        mark = b',';
-        if byte_at(line, next) != b',' {
-            return Row {
-                builder,
-                last: Outcome::Done,
-                call,
-            };
+        if !line.is_at(b',') {
+            return Ok(row);
         }
     }
-    Row {
-        builder,
-        last: Outcome::Done,
-        call,
-    }
-}
-
-// Ends the message with its payload, unless a call before was refused.
-fn end(row: Row, ends: Ends, store: &[u8], room: &mut [u8]) -> Ended {
-    let builder = row.builder;
-    let last = row.last;
-    match last {
-        Outcome::Refused(why) => Ended {
-            last: Written::Refused(why),
-            call: row.call,
-            built: builder.at,
-        },
-        Outcome::Done => Ended {
-            last: builder.payload(part(store, ends.token, ends.payload), room),
-            call: row.call,
-            built: builder.at,
-        },
-    }
+    Ok(row)
 }

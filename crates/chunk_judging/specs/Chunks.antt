@@ -1,8 +1,9 @@
 -- A datagram where it lies in a freeze stream: in chunks, each behind its head (docs/RULES.md, Freeze streams).
-use Rattle.std.specs.Prelude.{ℕ, zero, suc, ◌+◌, ◌-◌, ◌*◌, ◌/◌, ◌%◌, ◌≡◌, Bool, true, List, [], ◌∷◌, length, get_or, ltb, leb}
+use Rattle.std.specs.Prelude.{ℕ, zero, suc, ◌+◌, ◌-◌, ◌*◌, ◌/◌, ◌%◌, ◌<◌, ◌≤◌, ◌≡◌, Bool, true, List, [], ◌∷◌, length, get_or, ltb, leb, Result}
 use Rattle.ground.specs.Choice.{pick, both}
 use Rattle.refusal.specs.Answer.{Answer, refused, outcome}
-use Rattle.refusal.specs.declared.Outcome.{Outcome}
+use Rattle.refusal.specs.declared.Refusal.{Refusal}
+use Rattle.packet.specs.Limits.{max_store}
 use Rattle.cursor.specs.Cursor.{accepting}
 use Rattle.stream.specs.declared.Form.{Form}
 use Rattle.stream.specs.Stream.{full, head_size}
@@ -25,10 +26,14 @@ gathered form s from len = bytes_from form s from 0 len
 unfoldable pub past : Form → List ℕ → ℕ → ℕ → Bool
 past form s from len = both (ltb 0 len) (leb (length s) (from + offset form (len - 1)))
 
+-- It is not too long to be read, and its last byte lies in the stream.
+abbrev pub Lies : Form → ℕ → ℕ → List ℕ → Type 0
+Lies form from len s = (len ≤ max_store) × (from + offset form (len - 1) < length s)
+
 -- What judging such a datagram says: 19 where it ends past the stream, else what strict reading says of its bytes.
 unfoldable pub judged_at : Form → List ℕ → ℕ → ℕ → Answer (Unit {0})
 judged_at form s from len = pick (past form s from len) (refused 19) (accepting true (gathered form s from len))
 
 -- What judging promises.
-abbrev pub JudgesChunks : Form → List ℕ → ℕ → ℕ → Outcome → Type 0
+abbrev pub JudgesChunks : Form → List ℕ → ℕ → ℕ → Result (Unit {0}) Refusal → Type 0
 JudgesChunks form s from len r = outcome r ≡ judged_at form s from len

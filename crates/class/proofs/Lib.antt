@@ -1,3 +1,2 @@
 pub mod Class
 pub mod Agreement
-pub mod Unnamed

@@ -7,7 +7,7 @@ ghost use Rattle.class.specs.Class.{byte_of, byte_of_request, byte_of_response, 
 mod table;
 
 // The detailed class (request/response) of a message with the code.
-#[derive(Clone, Copy)]
+#[derive(Clone, Copy, Debug, PartialEq, Eq)]
 pub enum MessageClass {
     Empty,
     Request(RequestType),
@@ -37,7 +37,7 @@ impl MessageClass {
 }
 
 // The request codes.
-#[derive(Clone, Copy)]
+#[derive(Clone, Copy, Debug, PartialEq, Eq)]
 pub enum RequestType {
     Get,
     Post,
@@ -68,7 +68,7 @@ impl RequestType {
 }
 
 // The response codes.
-#[derive(Clone, Copy)]
+#[derive(Clone, Copy, Debug, PartialEq, Eq)]
 pub enum ResponseType {
     // 200 Codes
     Created,

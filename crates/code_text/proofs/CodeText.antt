@@ -19,8 +19,8 @@ use Rattle.refusal.proofs.Distinct.{distinct}
 use Rattle.decimal.specs.Decimal.{digits_from, digits, decimal_at}
 use Rattle.decimal.proofs.Reading.{small}
 use Rattle.code_text.specs.CodeText.{numeral_at, dot_in, code_in, code_text, code_of}
-use Rattle.code_text.specs.declared.Code.{Code}
-use Rattle.code_text.specs.declared.Code.TheVariants.{Byte, Refused}
+use Rattle.refusal.specs.declared.Refusal.{Refusal}
+use Rattle.std.specs.Prelude.{Result, Ok, Err}
 
 -- Where the next byte is a dot, it is the first.
 pub dot_here : (s : List ℕ) (i : ℕ) → i < length s → get_or s i 0 ≡ 46 → dot_in (drop i s) ≡ 0
@@ -113,8 +113,8 @@ text_back b h =
     answers_is b (code_in (code_text b)) (at (λ k _. answers k (code_in (code_text k))) (replicate 256 0) tt b (rw length-replicate h))
 
 -- An answer in the words of the promise is that of one value only.
-pub one_code : (a b : Code) → code_of a ≡ code_of b → a ≡ b
-one_code (Byte m) (Byte n) e = cc
-one_code (Byte m) (Refused y) e = cc
-one_code (Refused x) (Byte n) e = cc
-one_code (Refused x) (Refused y) e = let k : number_of x ≡ number_of y = cc in rw (distinct x y k)
+pub one_code : (a b : Result ℕ Refusal) → code_of a ≡ code_of b → a ≡ b
+one_code (Ok m) (Ok n) e = cc
+one_code (Ok m) (Err y) e = cc
+one_code (Err x) (Ok n) e = cc
+one_code (Err x) (Err y) e = let k : number_of x ≡ number_of y = cc in rw (distinct x y k)

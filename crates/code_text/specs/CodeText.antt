@@ -1,11 +1,10 @@
 -- A message code as text: class, one dot, detail, in decimal digits (RFC 7252, section 3).
-use Rattle.std.specs.Prelude.{ℕ, ◌+◌, ◌*◌, ◌/◌, ◌%◌, List, [], ◌∷◌, take, drop, eqb}
+use Rattle.std.specs.Prelude.{ℕ, ◌+◌, ◌*◌, ◌/◌, ◌%◌, List, [], ◌∷◌, take, drop, eqb, Result, Ok, Err}
 use Rattle.ground.specs.Choice.{pick}
 use Rattle.refusal.specs.Answer.{Answer, given, refused, onward}
 use Rattle.refusal.specs.Number.{number_of}
 use Rattle.decimal.specs.Decimal.{decimal_at}
-use Rattle.code_text.specs.declared.Code.{Code}
-use Rattle.code_text.specs.declared.Code.TheVariants.{Byte, Refused}
+use Rattle.refusal.specs.declared.Refusal.{Refusal}
 
 -- A number as text, at most the limit: a plus sign, which may be left out, and one or more digits; anything else gives
 -- BadText (15).
@@ -31,6 +30,6 @@ abbrev pub code_text : ℕ → List ℕ
 code_text b = (48 + b / 32) ∷ 46 ∷ (48 + b % 32 / 10) ∷ (48 + b % 32 % 10) ∷ []
 
 -- The answer of reading a code from text.
-abbrev pub code_of : Code → Answer ℕ
-code_of (Byte b) = given b
-code_of (Refused e) = refused (number_of e)
+abbrev pub code_of : Result ℕ Refusal → Answer ℕ
+code_of (Ok b) = given b
+code_of (Err e) = refused (number_of e)

@@ -5,32 +5,20 @@ ghost use Rattle.std.specs.Prelude.{◌≡◌};
 ghost use Rattle.decimal.specs.Decimal.{decimal_of};
 ghost use Rattle.code_text.specs.CodeText.{numeral_at, dot_in, code_in, code_text, code_of};
 
-use decimal::Decimal;
 use refusal::Refusal;
 
-// What reading a code from text answers.
-#[derive(Clone, Copy)]
-pub enum Code {
-    Byte(u8),
-    Refused(Refusal),
-}
-
 // The code byte of a text, as "2.05".
-pub fn code_in(text: &[u8]) -> Code
+pub fn code_in(text: &[u8]) -> Result<u8, Refusal>
     ensures { code_of result ≡ code_in text.now }
 {
     let dot = dot_in(text);
-    let Decimal::Value(class) = numeral(&text[..dot], 7) else {
-        return Code::Refused(Refusal::BadText);
-    };
+    let class = numeral(&text[..dot], 7).ok_or(Refusal::BadText)?;
     if text.len() <= dot {
-        return Code::Refused(Refusal::BadText);
+        return Err(Refusal::BadText);
     }
     let after = dot + 1;
-    let Decimal::Value(detail) = numeral(&text[after..], 31) else {
-        return Code::Refused(Refusal::BadText);
-    };
-    Code::Byte((class * 32 + detail) as u8)
+    let detail = numeral(&text[after..], 31).ok_or(Refusal::BadText)?;
+    Ok((class * 32 + detail) as u8)
 }
 
 // The text of a code byte.
@@ -50,22 +38,20 @@ pub fn code_text(byte: u8) -> [u8; 4]
 fn dot_in(text: &[u8]) -> usize
     ensures { result ≡ dot_in text.now }
 {
-    let mut i = 0;
-    while i < text.len() {
+    for i in 0..text.len() {
         if text[i] == b'.' {
             return i;
         }
-        i += 1;
     }
-    i
+    text.len()
 }
 
 // A number of at most `most`, with or without a plus sign.
-fn numeral(text: &[u8], most: u64) -> Decimal
+fn numeral(text: &[u8], most: u64) -> Option<u64>
     ensures { decimal_of result ≡ numeral_at most text.now }
 {
     if text.len() == 0 {
-        return Decimal::Bad;
+        return None;
     }
     if text[0] == b'+' {
         return decimal::decimal_in(&text[1..], most);

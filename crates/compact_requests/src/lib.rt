@@ -1,41 +1,63 @@
 // The request to compact a raw packet, with a second buffer whose bytes are known before.
 #![tactic(auto)]
 
-mod compacted;
+use class_words::{write_class_and_id, write_version_and_type};
+use compacting::compact;
+use output::Page;
+use packet::Stores;
+use packet_words::Held;
+use raw_words::{Raw, read_raw, write_raw};
+use rooms::{are_before, fill};
+use telling::{write_kept, write_refused};
+use words::{Line, part};
 
-use packet_words::EDITS;
-use raw_words::raw_at;
-use telling::Told;
-use words::{Named, finished, name_at, number_at, part};
-
-// Whether a line is this request.
-pub fn named(line: &[u8]) -> Named {
-    name_at(line, 0, b"compact;")
+// Whether a name is that of this request.
+pub fn is_named(name: &[u8]) -> bool {
+    matches!(name, b"compact")
 }
 
 // compact ROOM RAW
-pub fn answer(
-    line: &[u8],
-    at: usize,
-    store: &mut [u8],
-    room: &mut [u8],
-    out: &mut [u8],
-    place: usize,
-) -> usize {
-    let lent = number_at(line, at, b' ', 71000);
-    let raw = raw_at(line, lent.next, store);
-    let packet = raw.packet;
-    let ends = raw.ends;
-    let size = lent.value as usize;
-    if !finished(line, raw.next) || room.len() < size {
-        return Told::no_request().put(out, place, line, line);
-    }
-    compacted::answer(
+pub fn answer(line: &mut Line, store: &mut [u8], room: &mut [u8], page: &mut Page) -> Option<()> {
+    let second = line.room(room)?;
+    let Raw {
         packet,
-        part(store, 0, ends.datagram),
-        part(store, EDITS, ends.edits),
-        &mut room[0..size],
-        out,
-        place,
-    )
+        datagram,
+        edits,
+    } = read_raw(line, store)?;
+    line.finished()?;
+    fill(second);
+    let packet = match compact(packet, datagram, edits, second) {
+        Ok(compacted) => {
+            write_end(page, second, compacted.end);
+            compacted.packet
+        }
+        Err(why) => {
+            write_refused(page, why);
+            write_kept(page, are_before(second, 0));
+            packet
+        }
+    };
+    write_compacted(
+        page,
+        Held {
+            packet,
+            stores: Stores { datagram, edits },
+        },
+    );
+    Some(())
+}
+
+// Puts the end and the bytes of the second buffer up to it, and whether its other bytes are as they were.
+fn write_end(page: &mut Page, second: &[u8], end: usize) {
+    page.number(b"compacted ", end as u64);
+    page.hex(b" ", part(second, 0, end));
+    write_kept(page, are_before(second, end));
+}
+
+// Puts what is left, as the words of a raw packet.
+fn write_compacted(page: &mut Page, held: Held) {
+    let header = held.packet.header;
+    write_version_and_type(page, header);
+    write_class_and_id(page, header);
+    write_raw(page, held);
 }

@@ -1,25 +1,26 @@
 -- The answer of compaction: what refuses, what a new end says, and what then stands in both buffers.
 use Prim.Native.Nat.{ℕ, ◌<◌, ◌≤◌}
 use mathlib.Core.Path.{◌≡◌, refl, sym, ap, ◌∙◌}
-use mathlib.Core.Bool.{true, false}
+use mathlib.Core.Bool.{Bool, true, false}
 use mathlib.Core.List.{List}
 use native.Mathlib.Nat.{zero-add}
 use native.Mathlib.Omega.{arith}
 use lib.ListN.{length, take}
 use lib.Dec.{ltb}
 use borrow.Author.Tests.{lt-ltb, le-ltb, ltb-false}
-use Rattle.ground.specs.Choice.{either}
+use Rattle.std.specs.Prelude.{Ok, Err}
+use Rattle.ground.specs.Choice.{pick, either}
 use Rattle.ground.proofs.Choice.{on, neither, either_right}
-use Rattle.refusal.specs.Answer.{Answer, given, refused, written}
-use Rattle.refusal.specs.declared.Written.{Written}
-use Rattle.refusal.specs.declared.Written.TheVariants.{Length}
+use Rattle.refusal.specs.Answer.{Answer, given, refused}
+use Rattle.refusal.specs.Number.{number_of}
+use Rattle.refusal.specs.declared.Refusal.{Refusal}
 use Rattle.refusal.proofs.Answers.{not_refused, same_given}
 use Rattle.placing.specs.Put.{Puts, Put}
 use Rattle.placing.proofs.Puts.{puts_whole, puts_front, puts_length}
 use Rattle.packet.specs.Limits.{max_store}
-use Rattle.packet.specs.Packet.{Stores}
+use Rattle.packet.specs.Packet.{Stores, records_of}
 use Rattle.packet.specs.declared.Packet.{Packet}
-use Rattle.judging.specs.Judge.{lengths_of, is_too_long, bad_packet}
+use Rattle.judging.specs.Judge.{lengths_of, is_too_long, bad_packet, options_size, judging}
 use Rattle.judging.specs.declared.Lengths.{Lengths}
 use Rattle.judging.proofs.Good.{Good, good}
 use Rattle.compacting.specs.Compacting.{live_bytes, live_length, relocated, compacting, Compacts}
@@ -32,9 +33,14 @@ module _ (lengths : Lengths) (room : ℕ) (p : Packet) where
   too_long t = rw t refl
 
   module _ (t : is_too_long lengths ≡ false) where
-    pub bad_record : bad_packet lengths p ≡ true → refused 11 ≡ compacting lengths room p
-    unfolding compacting
-    bad_record b = rw (t, b) refl
+    pub bad_record : (k : ℕ) → refused k ≡ judging lengths p → refused k ≡ compacting lengths room p
+    unfolding compacting judging
+    bad_record k e = rw t (go (bad_packet lengths p) e)
+      where
+        go : (b : Bool) → refused k ≡ pick b (refused 11) (given (options_size 0 (records_of p)))
+            → refused k ≡ pick b (refused 11) (pick (either (ltb lengths.edits (live_length p)) (ltb room (live_length p))) (refused 12) (given (live_length p)))
+        go true d = d
+        go false d = not_refused (sym d)
 
     module _ (b : bad_packet lengths p ≡ false) (n : ℕ) (e : n ≡ live_length p) where
       pub full_edits : lengths.edits < n → refused 12 ≡ compacting lengths room p
@@ -83,9 +89,8 @@ short_edits lengths e = ltb-false max_store lengths.edits (neither (ltb max_stor
 
 module _ (p : Packet) (s : Stores) (second : List ℕ) where
   -- A refusal leaves the packet and both buffers as they were.
-  pub refuses : (w : Written) (k : ℕ) → written w ≡ refused k → compacting (lengths_of s) (length second) p ≡ refused k
-      → Compacts p s second (record { outcome = w; packet = p }) s.edits second
-  refuses w k h e = record { answer = h ∙ sym e; packet = rw e; edits = rw e; buffer = rw e }
+  pub refuses : (r : Refusal) → compacting (lengths_of s) (length second) p ≡ refused (number_of r) → Compacts p s second (Err r) s.edits second
+  refuses r e = record { answer = sym e; packet = rw e; edits = rw e; buffer = rw e }
 
   module _ (n : ℕ) (e : compacting (lengths_of s) (length second) p ≡ given n) where
     facts : Fits (lengths_of s) (length second) p n
@@ -115,7 +120,7 @@ module _ (p : Packet) (s : Stores) (second : List ℕ) where
 
       -- Copied back, they are all that changes in the edit store.
       pub compacts : (k : ℕ) (newEdits : List ℕ) → Puts s.edits 0 (take n newSecond) k newEdits → (q : Packet) → q ≡ relocated p
-          → Compacts p s second (record { outcome = Length n; packet = q }) newEdits newSecond
+          → Compacts p s second (Ok (record { end = n; packet = q })) newEdits newSecond
       compacts k newEdits b q moved =
           let back : Put s.edits 0 (live_bytes s p) k newEdits = puts_whole (rw begins at b) (omega (arith, long, facts.edits)) in
           record { answer = sym e; packet = rw e moved; edits = rw e back.out; buffer = rw e gathered.out }

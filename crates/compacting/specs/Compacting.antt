@@ -1,8 +1,10 @@
 -- Compaction (docs/RULES.md, Compaction): the live bytes of a packet moved to the front of the edit store, and its ranges
 -- rewritten.
-use Rattle.std.specs.Prelude.{ℕ, ◌+◌, ◌-◌, ◌≡◌, List, [], ◌∷◌, ◌++◌, length, replicate, ltb}
+use Rattle.std.specs.Prelude.{ℕ, ◌+◌, ◌-◌, ◌≡◌, List, [], ◌∷◌, ◌++◌, length, replicate, ltb, Result, Ok, Err}
 use Rattle.ground.specs.Choice.{pick, either}
-use Rattle.refusal.specs.Answer.{Answer, given, refused, written, after}
+use Rattle.refusal.specs.Answer.{Answer, given, refused, after}
+use Rattle.refusal.specs.Number.{number_of}
+use Rattle.refusal.specs.declared.Refusal.{Refusal}
 use Rattle.packet.specs.Limits.{max_options}
 use Rattle.packet.specs.Packet.{Stores, none, bytes_of, value_of, records_of}
 use Rattle.packet.specs.declared.Packet.{Packet}
@@ -68,10 +70,20 @@ abbrev pub packet_beside : Answer ℕ → Packet → Packet
 packet_beside (given n) p = relocated p
 packet_beside (refused k) p = p
 
--- The promise of compaction: of its answer and the packet beside it, and of the edit store and the second buffer, which then
+-- The answer of compaction: the new end.
+abbrev pub end_given : Result Compacted Refusal → Answer ℕ
+end_given (Ok c) = given c.end
+end_given (Err e) = refused (number_of e)
+
+-- The packet that it leaves: the one that it gives, or the one that came beside a refusal.
+abbrev pub packet_left : Packet → Result Compacted Refusal → Packet
+packet_left p (Ok c) = c.packet
+packet_left p (Err e) = p
+
+-- The promise of compaction: of its answer and the packet that it leaves, and of the edit store and the second buffer, which then
 -- begin with the live bytes and are otherwise as they were, and after a refusal what they were.
-pub record Compacts (p : Packet) (s : Stores) (second : List ℕ) (r : Compacted) (newEdits newSecond : List ℕ) : Type 0 where
-  pub answer : written r.outcome ≡ compacting (lengths_of s) (length second) p
-  pub packet : r.packet ≡ packet_beside (compacting (lengths_of s) (length second) p) p
+pub record Compacts (p : Packet) (s : Stores) (second : List ℕ) (r : Result Compacted Refusal) (newEdits newSecond : List ℕ) : Type 0 where
+  pub answer : end_given r ≡ compacting (lengths_of s) (length second) p
+  pub packet : packet_left p r ≡ packet_beside (compacting (lengths_of s) (length second) p) p
   pub edits : newEdits ≡ after (compacting (lengths_of s) (length second) p) 0 (live_bytes s p) s.edits
   pub buffer : newSecond ≡ after (compacting (lengths_of s) (length second) p) 0 (live_bytes s p) second

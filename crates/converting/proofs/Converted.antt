@@ -6,8 +6,8 @@ use native.Mathlib.Omega.{arith}
 use lib.ListN.{length}
 use Rattle.refusal.specs.Answer.{given, refused, written}
 use Rattle.refusal.specs.declared.Refusal.TheVariants.{NoRoom}
-use Rattle.refusal.specs.declared.Written.{Written}
-use Rattle.refusal.specs.declared.Written.TheVariants.{Length, Refused}
+use Rattle.std.specs.Prelude.{Result, Ok, Err}
+use Rattle.refusal.specs.declared.Refusal.{Refusal}
 use Rattle.refusal.proofs.Fitted.{put_fits, no_room}
 use Rattle.framing.specs.Framing.{Converts}
 use Rattle.placing.specs.Put.{Put}
@@ -22,7 +22,7 @@ use Rattle.converting.specs.Converting.{other_form, converted, size_in, Converti
 use Rattle.converting.proofs.Sizes.{stream_size}
 
 module _ (from : Form) (s old : List ℕ) where
-  pub converts_refused : (r : Written) (k : ℕ) → thawed_strictly from s ≡ refused k → written r ≡ refused k → Converts (converted from s) old r old
+  pub converts_refused : (r : Result ℕ Refusal) (k : ℕ) → thawed_strictly from s ≡ refused k → written r ≡ refused k → Converts (converted from s) old r old
   converts_refused r k e h = record { answer = h ∙ rw e refl; output = rw e refl }
 
   module _ (to : Form) (is : to ≡ other_form from) (count bytes chunks : ℕ) (c : Counted from to s count bytes chunks) where
@@ -32,7 +32,7 @@ module _ (from : Form) (s old : List ℕ) where
     pub counted_size : length (stream_of to c.messages) ≡ size_in to count bytes chunks
     counted_size = stream_size to c.messages (thawed_sound from s c.messages thaws).1 ∙ rw (c.count_is, c.bytes_is, c.chunks_is) refl
 
-    pub converts_nothing : length old < size_in to count bytes chunks → Converts (converted from s) old (Refused NoRoom) old
+    pub converts_nothing : length old < size_in to count bytes chunks → Converts (converted from s) old (Err NoRoom) old
     converts_nothing h =
         let n = no_room old (stream_of to c.messages) (omega (arith, counted_size)) in
         record { answer = rw (c.are, ← is) n.0; output = rw (c.are, ← is) n.1 }
@@ -40,7 +40,7 @@ module _ (from : Form) (s old : List ℕ) where
     pub convertible : size_in to count bytes chunks ≤ length old → Convertible from to s (length old)
     convertible h = record { messages = c.messages; are = thaws; room_for = omega (arith, counted_size) }
 
-    pub converts_all : (r : ℕ) (new : List ℕ) → size_in to count bytes chunks ≤ length old → Put old 0 (stream_of to (messages_in (thawed from s))) r new → Converts (converted from s) old (Length r) new
+    pub converts_all : (r : ℕ) (new : List ℕ) → size_in to count bytes chunks ≤ length old → Put old 0 (stream_of to (messages_in (thawed from s))) r new → Converts (converted from s) old (Ok r) new
     converts_all r new h p =
         let l : messages_in (thawed from s) ≡ c.messages = ap messages_in thaws in
         let q : Put old 0 (stream_of to c.messages) r new = rw l at p in

@@ -12,7 +12,8 @@ use Rattle.placing.specs.Put.{Put, Puts}
 use Rattle.placing.proofs.Puts.{Putting, putting_start, putting_turn, putting_end, puts_whole}
 use Rattle.stream.specs.declared.Form.{Form}
 use Rattle.stream.specs.declared.Step.{Step}
-use Rattle.stream.specs.declared.Step.TheVariants.{Message}
+use Rattle.std.specs.Prelude.{Result, Ok}
+use Rattle.refusal.specs.declared.Refusal.{Refusal}
 use Rattle.stream.specs.Stream.{Frozen, message_of, stream_of}
 use Rattle.stream.specs.Answers.{step_read}
 use Rattle.stream.proofs.Complete.{message_some}
@@ -47,7 +48,7 @@ module _ (from to : Form) (s : List ℕ) where
       fits = omega (arith, w.array_is, first.sized.most)
 
       -- The step isn't refused.
-      pub put_some {ℓ} : {C : Type ℓ} (r : Step) (newer : List ℕ) (k : ℕ) → NextMessage from s at array 0 r newer → step_read r ≡ refused k → C
+      pub put_some {ℓ} : {C : Type ℓ} (r : Result Step Refusal) (newer : List ℕ) (k : ℕ) → NextMessage from s at array 0 r newer → step_read r ≡ refused k → C
       put_some r newer k n e = never_refused from s at w.rest first array 0 fits r newer k n e
 
       -- The message that the step gave: its datagram at the front of the array, its peer in the stream.
@@ -61,7 +62,7 @@ module _ (from to : Form) (s : List ℕ) where
         pub next_is : next ≡ at + length (message_of from first.message)
         pub onwards : at < next
 
-      pub put_given : (r : Step) (len next : ℕ) (newer : List ℕ) → r ≡ Message len next → NextMessage from s at array 0 r newer → Given len next newer
+      pub put_given : (r : Result Step Refusal) (len next : ℕ) (newer : List ℕ) → r ≡ Ok (record { len = len; next = next }) → NextMessage from s at array 0 r newer → Given len next newer
       put_given r len next newer e n =
           let d : List ℕ = first.message.datagram in
           let t = taken from s at w.rest first array 0 fits len next newer (rw e at n) in

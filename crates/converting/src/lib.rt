@@ -11,28 +11,20 @@ ghost use Rattle.converting.specs.Converting.{other_form, size_in, Convertible, 
 
 use freezing::put_message;
 use packet::limits::FULL_SIZE;
-use refusal::{Refusal, Written};
-use stream::{Form, Step};
+use refusal::Refusal;
+use stream::Form;
 use thawing::{Strict, judge_strictly, next_message};
 
 // Writes the stream in the other form that has the same messages. The answer is how many bytes it has.
-pub fn convert(from: Form, stream: &[u8], out: &mut [u8]) -> Written
+pub fn convert(from: Form, stream: &[u8], out: &mut [u8]) -> Result<usize, Refusal>
     ensures { Converts (converted from stream.now) out.old result out.new }
 {
     let to = other_form(from);
-    match judge_strictly(from, to, stream) {
-        Strict::Refused(e) => Written::Refused(e),
-        Strict::Messages {
-            count,
-            bytes,
-            chunks,
-        } => {
-            if has_room(to, count, bytes, chunks, out.len()) {
-                return Written::Length(put_stream(from, to, stream, out));
-            }
-            Written::Refused(Refusal::NoRoom)
-        }
+    let strict = judge_strictly(from, to, stream)?;
+    if has_room(to, strict, out.len()) {
+        return Ok(put_stream(from, to, stream, out));
     }
+    Err(Refusal::NoRoom)
 }
 
 fn other_form(form: Form) -> Form
@@ -46,20 +38,20 @@ fn other_form(form: Form) -> Form
 
 // Whether an output of this length has room for a stream with these counts. The old form can have more than twice the bytes of the
 // new, so what is left is compared, and no sum is made.
-fn has_room(form: Form, count: usize, bytes: usize, chunks: usize, room: usize) -> bool
-    ensures { result ≡ leb (size_in form count bytes chunks) room }
+fn has_room(form: Form, strict: Strict, room: usize) -> bool
+    ensures { result ≡ leb (size_in form strict.count strict.bytes strict.chunks) room }
 {
-    if room / 20 < count {
+    if room / 20 < strict.count {
         return false;
     }
-    let left = room - 20 * count;
+    let left = room - 20 * strict.count;
     match form {
-        Form::Old => chunks <= left / 32,
+        Form::Old => strict.chunks <= left / 32,
         Form::New => {
-            if left < bytes {
+            if left < strict.bytes {
                 return false;
             }
-            chunks <= left - bytes
+            strict.chunks <= left - strict.bytes
         }
     }
 }
@@ -73,17 +65,13 @@ fn put_stream(from: Form, to: Form, stream: &[u8], out: &mut [u8]) -> usize
     let mut at = 0;
     let mut place = 0;
     while at < stream.len() {
-        match next_message(from, stream, at, &mut datagram, 0) {
-            Step::Refused(_) => {
-                return place;
-            }
-            Step::Message { len, next } => {
-                let peer = at + 1;
-                let end = at + 19;
-                place = put_message(to, out, place, &stream[peer..end], &datagram[..len]);
-                at = next;
-            }
-        }
+        let Ok(message) = next_message(from, stream, at, &mut datagram, 0) else {
+            return place;
+        };
+        let peer = at + 1;
+        let end = at + 19;
+        place = put_message(to, out, place, &stream[peer..end], &datagram[..message.len]);
+        at = message.next;
     }
     place
 }

@@ -1,9 +1,9 @@
 -- Reading step by step (docs/RULES.md, Reading step by step): how a walk starts, what a step answers, and what judging says.
-use Rattle.std.specs.Prelude.{ℕ, ◌+◌, ◌-◌, ◌≡◌, Bool, List, length, ltb, eqb}
+use Rattle.std.specs.Prelude.{ℕ, ◌+◌, ◌-◌, ◌≡◌, Bool, List, length, ltb, eqb, Result, Ok, Err}
 use Rattle.ground.specs.Choice.{pick, both}
 use Rattle.refusal.specs.Answer.{Answer, given, refused, onward, outcome}
 use Rattle.refusal.specs.Number.{number_of}
-use Rattle.refusal.specs.declared.Outcome.{Outcome}
+use Rattle.refusal.specs.declared.Refusal.{Refusal}
 use Rattle.header.specs.Header.{token_of}
 use Rattle.header.specs.declared.HeaderRaw.{HeaderRaw}
 use Rattle.packet.specs.Limits.{max_store, max_options}
@@ -15,9 +15,8 @@ use Rattle.reading.specs.Headed.{headed}
 use Rattle.reading.specs.Reading.{longest, reading}
 use Rattle.cursor.specs.declared.Cursor.{Cursor}
 use Rattle.cursor.specs.declared.Start.{Start}
-use Rattle.cursor.specs.declared.Start.TheVariants.{Message, Refused as NotStarted}
 use Rattle.cursor.specs.declared.Step.{Step}
-use Rattle.cursor.specs.declared.Step.TheVariants.{Option, Payload, Refused}
+use Rattle.cursor.specs.declared.Step.TheVariants.{Option, Payload}
 
 -- A header, and the cursor before the first option.
 pub record Started : Type 0 where
@@ -69,21 +68,21 @@ record_of number value =
     record { number = number; home = value.home; spare = 0; start = value.start; len = value.len }
 
 -- The answers of `start` and `step`.
-abbrev pub start_read : Start → Answer Started
-start_read (Message raw cursor) = given (record { raw = raw; cursor = cursor })
-start_read (NotStarted e) = refused (number_of e)
+abbrev pub start_read : Result Start Refusal → Answer Started
+start_read (Ok x) = given (record { raw = x.raw; cursor = x.cursor })
+start_read (Err e) = refused (number_of e)
 
-abbrev pub step_read : Step → Answer Seen
-step_read (Option number value next) = given (passed (record_of number value) next)
-step_read (Payload p) = given (rest p)
-step_read (Refused e) = refused (number_of e)
+abbrev pub step_read : Result Step Refusal → Answer Seen
+step_read (Ok (Option number value next)) = given (passed (record_of number value) next)
+step_read (Ok (Payload p)) = given (rest p)
+step_read (Err e) = refused (number_of e)
 
 -- What a start, a step and a judgement promise.
-abbrev pub Starts : Bool → List ℕ → Start → Type 0
+abbrev pub Starts : Bool → List ℕ → Result Start Refusal → Type 0
 Starts strict s r = start_read r ≡ start_of strict s
 
-abbrev pub StepsTo : List ℕ → Cursor → Step → Type 0
+abbrev pub StepsTo : List ℕ → Cursor → Result Step Refusal → Type 0
 StepsTo s c r = step_read r ≡ step_of s c
 
-abbrev pub Judges : Bool → List ℕ → Outcome → Type 0
+abbrev pub Judges : Bool → List ℕ → Result (Unit {0}) Refusal → Type 0
 Judges strict s r = outcome r ≡ accepting strict s

@@ -1,5 +1,5 @@
 -- What the steps from a cursor give together, and the packet that is collected from them.
-use Rattle.std.specs.Prelude.{ℕ, zero, suc, ◌-◌, ◌<◌, ◌≤◌, ◌≡◌, Bool, List, [], ◌∷◌, ◌++◌, length, replicate}
+use Rattle.std.specs.Prelude.{ℕ, zero, suc, ◌-◌, ◌<◌, ◌≤◌, ◌≡◌, Bool, List, [], ◌∷◌, ◌++◌, length, replicate, Ok, Err}
 use Rattle.refusal.specs.Answer.{Answer, given, refused, onward}
 use Rattle.refusal.specs.Number.{number_of}
 use Rattle.refusal.specs.declared.Refusal.{Refusal}
@@ -14,7 +14,7 @@ use Rattle.option_reading.specs.Option.{option, place_at}
 use Rattle.reading.specs.Reading.{longest}
 use Rattle.cursor.specs.Cursor.{start_of, Seen, passed, rest, past, step_of, record_of, StepsTo}
 use Rattle.cursor.specs.declared.Cursor.{Cursor}
-use Rattle.cursor.specs.declared.Step.TheVariants.{Option, Payload, Refused}
+use Rattle.cursor.specs.declared.Step.TheVariants.{Option, Payload}
 
 -- What is collected: the options that were passed, and the payload.
 pub record Walked : Type 0 where
@@ -60,9 +60,9 @@ stepping steps strict s =
 -- and this is how it ended.
 pub data Run (s : List ℕ) : Cursor → List OptionRecord → Answer Range → Type 0 where
   goes : {c : Cursor} {number : ℕ} {value : Range} {next : Cursor} {rs : List OptionRecord} {a : Answer Range}
-      → StepsTo s c (Option number value next) → Run s next rs a → Run s c (record_of number value ∷ rs) a
-  ends : {c : Cursor} {p : Range} → StepsTo s c (Payload p) → Run s c [] (given p)
-  stops : {c : Cursor} (e : Refusal) → StepsTo s c (Refused e) → Run s c [] (refused (number_of e))
+      → StepsTo s c (Ok (Option number value next)) → Run s next rs a → Run s c (record_of number value ∷ rs) a
+  ends : {c : Cursor} {p : Range} → StepsTo s c (Ok (Payload p)) → Run s c [] (given p)
+  stops : {c : Cursor} (e : Refusal) → StepsTo s c (Err e) → Run s c [] (refused (number_of e))
 
 -- What a step past an option says: that option stands at the cursor, which was inside the datagram and had room for it, and
 -- the next cursor is the one after it, with less room.

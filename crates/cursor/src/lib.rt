@@ -6,12 +6,12 @@ ghost use Rattle.refusal.specs.Answer.{outcome};
 ghost use Rattle.cursor.specs.Cursor.{Starts, StepsTo, Judges};
 ghost use Rattle.cursor.specs.Walk.{accepting_from};
 
-use header::{HeaderRaw, RawRead};
+use header::HeaderRaw;
 use option_reading::{Found, place_at};
 use packet::limits::{MAX_OPTIONS, MAX_STORE};
 use packet::{Home, Range};
 use reading::{longest_value, marker_alone, opening};
-use refusal::{Outcome, Refusal};
+use refusal::Refusal;
 
 // A walk over a datagram that keeps nothing of what it has passed: the mode, the number of the option before, the position
 // where the next one may stand, and how many more there may be. `start` makes the first, and a step each next one. The fields
@@ -24,15 +24,14 @@ pub struct Cursor {
     pub left: usize,
 }
 
-// A good header, and the cursor before the first option; or why the datagram is refused.
+// A good header, and the cursor before the first option.
 #[derive(Clone, Copy)]
-pub enum Start {
-    Message { raw: HeaderRaw, cursor: Cursor },
-    Refused(Refusal),
+pub struct Start {
+    pub raw: HeaderRaw,
+    pub cursor: Cursor,
 }
 
-// What stands at a cursor: an option, with the cursor after it; the payload, and the walk has ended well; or why the datagram
-// is refused.
+// What stands at a cursor: an option, with the cursor after it; or the payload, and the walk has ended well.
 #[derive(Clone, Copy)]
 pub enum Step {
     Option {
@@ -41,54 +40,48 @@ pub enum Step {
         next: Cursor,
     },
     Payload(Range),
-    Refused(Refusal),
 }
 
 impl Cursor {
     // Judges a datagram up to its options.
-    pub fn start(strict: bool, datagram: &[u8]) -> Start
+    pub fn start(strict: bool, datagram: &[u8]) -> Result<Start, Refusal>
         ensures { Starts strict datagram.now result }
     {
-        match opening(strict, datagram) {
-            RawRead::Refused(e) => Start::Refused(e),
-            RawRead::Raw(raw) => {
-                let cursor = Cursor {
-                    strict,
-                    number: 0,
-                    at: 4 + raw.token_length() as usize,
-                    left: MAX_OPTIONS,
-                };
-                Start::Message { raw, cursor }
-            }
-        }
+        let raw = opening(strict, datagram)?;
+        let cursor = Cursor {
+            strict,
+            number: 0,
+            at: 4 + raw.token_length() as usize,
+            left: MAX_OPTIONS,
+        };
+        Ok(Start { raw, cursor })
     }
 
     // What stands at the cursor.
-    pub fn step(self, datagram: &[u8]) -> Step
+    pub fn step(self, datagram: &[u8]) -> Result<Step, Refusal>
         ensures { StepsTo datagram.now self result }
     {
         let at = self.at;
         if MAX_STORE < datagram.len() {
-            return Step::Refused(Refusal::TooLong);
+            return Err(Refusal::TooLong);
         }
         if datagram.len() < at {
-            return Step::Refused(Refusal::InvalidOptionLength);
+            return Err(Refusal::InvalidOptionLength);
         }
-        match place_at(longest_value(self.strict), datagram, self.number, at) {
-            Found::Refused(e) => Step::Refused(e),
+        match place_at(longest_value(self.strict), datagram, self.number, at)? {
             Found::End { marked, payload } => {
                 if marker_alone(self.strict, marked, payload, datagram.len()) {
-                    return Step::Refused(Refusal::MarkerAlone);
+                    return Err(Refusal::MarkerAlone);
                 }
-                Step::Payload(Range {
+                Ok(Step::Payload(Range {
                     home: Home::Datagram,
                     start: payload as u32,
                     len: (datagram.len() - payload) as u32,
-                })
+                }))
             }
             Found::Option(r) => {
                 if self.left == 0 {
-                    return Step::Refused(Refusal::TooManyOptions);
+                    return Err(Refusal::TooManyOptions);
                 }
                 // The record isn't handed on: its fields were stored one by one, and a load of the whole waits for them.
                 let value = Range {
@@ -102,46 +95,31 @@ impl Cursor {
                     at: r.start as usize + r.len as usize,
                     left: self.left - 1,
                 };
-                Step::Option {
+                Ok(Step::Option {
                     number: r.number,
                     value,
                     next,
-                }
+                })
             }
         }
     }
 }
 
 // Whether reading accepts a datagram.
-pub fn judge(strict: bool, datagram: &[u8]) -> Outcome
+pub fn judge(strict: bool, datagram: &[u8]) -> Result<(), Refusal>
     ensures { Judges strict datagram.now result }
 {
-    match Cursor::start(strict, datagram) {
-        Start::Refused(e) => Outcome::Refused(e),
-        Start::Message { raw: _, cursor } => judge_from(cursor, datagram),
-    }
+    let start = Cursor::start(strict, datagram)?;
+    judge_from(start.cursor, datagram)
 }
 
 // Whether the steps from a cursor end well.
-fn judge_from(first: Cursor, datagram: &[u8]) -> Outcome
+fn judge_from(first: Cursor, datagram: &[u8]) -> Result<(), Refusal>
     ensures { outcome result ≡ accepting_from datagram.now first }
 {
     let mut cursor = first;
-    loop {
-        match cursor.step(datagram) {
-            Step::Refused(e) => {
-                return Outcome::Refused(e);
-            }
-            Step::Payload(_) => {
-                return Outcome::Done;
-            }
-            Step::Option {
-                number: _,
-                value: _,
-                next,
-            } => {
-                cursor = next;
-            }
-        }
+    while let Step::Option { next, .. } = cursor.step(datagram)? {
+        cursor = next;
     }
+    Ok(())
 }

@@ -1,9 +1,7 @@
 -- Decimal numbers as ASCII bytes: the digits of a number, and the number of digits.
-use Rattle.std.specs.Prelude.{ℕ, zero, suc, ◌+◌, ◌-◌, ◌*◌, ◌/◌, ◌%◌, List, [], ◌∷◌, ◌++◌, ltb, leb}
+use Rattle.std.specs.Prelude.{ℕ, zero, suc, ◌+◌, ◌-◌, ◌*◌, ◌/◌, ◌%◌, List, [], ◌∷◌, ◌++◌, ltb, leb, Option, Some, None}
 use Rattle.ground.specs.Choice.{pick, within}
 use Rattle.refusal.specs.Answer.{Answer, given, refused, onward}
-use Rattle.decimal.specs.declared.Decimal.{Decimal}
-use Rattle.decimal.specs.declared.Decimal.TheVariants.{Value, Bad}
 
 -- The decimal digits of a number below 10 ^ places, with no leading zeros; zero is one digit.
 unfoldable pub decimal_in : ℕ → ℕ → List ℕ
@@ -37,6 +35,6 @@ abbrev pub decimal_at : ℕ → List ℕ → Answer ℕ
 decimal_at most text = onward (digits text) (at_most most)
 
 -- The answer of reading a number.
-abbrev pub decimal_of : Decimal → Answer ℕ
-decimal_of (Value n) = given n
-decimal_of Bad = refused 15
+abbrev pub decimal_of : Option ℕ → Answer ℕ
+decimal_of (Some n) = given n
+decimal_of None = refused 15

@@ -22,49 +22,31 @@ pub fn put_decimal(out: &mut [u8], at: usize, number: u64) -> usize
     placing::put_bytes(out, at, &digits[first..])
 }
 
-// What a text says as a number.
-#[derive(Clone, Copy)]
-pub enum Decimal {
-    Value(u64),
-    Bad,
-}
-
 // The number after one more digit, where it is at most `most`. It is judged before it is made, so that none wraps.
-fn further(value: u64, byte: u8, most: u64) -> Decimal
+fn further(value: u64, byte: u8, most: u64) -> Option<u64>
     ensures { decimal_of result ≡ onward (digit_after value byte) (at_most most) }
 {
-    if byte < b'0' {
-        return Decimal::Bad;
-    }
-    if b'9' < byte {
-        return Decimal::Bad;
+    if byte < b'0' || b'9' < byte {
+        return None;
     }
     let digit = (byte - b'0') as u64;
-    if most < digit {
-        return Decimal::Bad;
+    if most < digit || (most - digit) / 10 < value {
+        return None;
     }
-    if (most - digit) / 10 < value {
-        return Decimal::Bad;
-    }
-    Decimal::Value(value * 10 + digit)
+    Some(value * 10 + digit)
 }
 
 // The number of a text that is digits alone, where it is at most `most`; leading zeros are read. A number that is over it stays
 // over it, however it goes on.
-pub fn decimal_in(text: &[u8], most: u64) -> Decimal
+pub fn decimal_in(text: &[u8], most: u64) -> Option<u64>
     ensures { decimal_of result ≡ decimal_at most text.now }
 {
     if text.len() == 0 {
-        return Decimal::Bad;
+        return None;
     }
     let mut value: u64 = 0;
-    let mut i = 0;
-    while i < text.len() {
-        let Decimal::Value(number) = further(value, text[i], most) else {
-            return Decimal::Bad;
-        };
-        value = number;
-        i = i + 1;
+    for byte in text {
+        value = further(value, *byte, most)?;
     }
-    Decimal::Value(value)
+    Some(value)
 }

@@ -1,181 +1,73 @@
 // The request to play an edit script over a new packet or a datagram.
 #![tactic(auto)]
 
-use edit_scripts::{Script, played};
-use getter_words::put_getters;
-use output::Console;
-use packet::Packet;
-use packet_words::EDITS;
-use placing::put_bytes;
-use refusal::Outcome;
-use telling::{REFUSED, Told};
-use words::{NOWHERE, Named, after, bytes_at, ended, finished, name_at, part};
+use edit_scripts::play;
+use edit_steps::Source;
+use getter_words::write_getters;
+use output::Page;
+use packet::limits::MAX_STORE;
+use packet::{Packet, Stores};
+use packet_words::{EDITS, Held};
+use telling::{write_refused, write_written};
+use words::Line;
 
-// How many bytes the edit store of a script has.
-const SIZE: usize = 70000;
-
-// Whether a line is this request.
-pub fn named(line: &[u8]) -> Named {
-    name_at(line, 0, b"edit;")
+// Whether a name is that of this request.
+pub fn is_named(name: &[u8]) -> bool {
+    matches!(name, b"edit")
 }
 
 // edit START ; STEP ; STEP
-pub fn answer(
-    console: Console,
-    line: &[u8],
-    at: usize,
-    store: &mut [u8],
-    room: &mut [u8],
-    out: &mut [u8],
-    place: usize,
-) -> usize {
-    let begun = start(line, at, store);
-    let length = begun.length;
-    let script = scripted(begun, line, store, room);
-    put_script(
-        console,
-        script,
-        line,
-        part(store, 0, length),
-        part(store, EDITS, EDITS + SIZE),
-        room,
-        out,
-        place,
-    )
-}
-
-// Plays a script beside a copy of the datagram, since its steps write into the store that holds both.
-fn scripted(begun: Begun, line: &[u8], store: &mut [u8], room: &mut [u8]) -> Script {
-    let length = begun.length;
-    let script = begun.script;
-    put_bytes(room, 0, part(store, 0, length));
-    let datagram = part(room, 0, length);
-    edited(script, line, datagram, store, EDITS, EDITS + SIZE)
-}
-
-// Puts the answer to a script.
-fn put_script<'a>(
-    console: Console,
-    script: Script,
-    line: &[u8],
-    datagram: &'a [u8],
-    edits: &'a [u8],
-    room: &mut [u8],
-    out: &mut [u8],
-    place: usize,
-) -> usize {
-    if 0 < script.refused || !finished(line, script.next) {
-        return judged(script).put(out, place, line, line);
+pub fn answer(line: &mut Line, store: &mut [u8], room: &mut [u8], page: &mut Page) -> Option<()> {
+    let (datagram, edits) = store.split_at_mut_checked(EDITS)?;
+    let edits = edits.get_mut(..MAX_STORE)?;
+    if line.past(b" new").is_some() {
+        line.ended()?;
+        return answer_from(Packet::new(), line, b"", edits, room, page);
     }
-    let packet = script.packet;
-    let next = put_getters(
-        console,
-        out,
-        place,
-        line,
-        script.asked,
-        packet,
-        datagram,
-        edits,
-    );
-    put_messages(out, next, packet, datagram, edits, room)
-}
-
-// Puts the message that the packet is written as, by the default limit and by none.
-fn put_messages<'a>(
-    out: &mut [u8],
-    place: usize,
-    packet: Packet,
-    datagram: &'a [u8],
-    edits: &'a [u8],
-    room: &mut [u8],
-) -> usize {
-    let next = put_default(out, place, packet, datagram, edits, room);
-    put_unlimited(out, next, packet, datagram, edits, room)
-}
-
-// Plays a script over the part of the store that is its edit store.
-fn edited(
-    script: Script,
-    line: &[u8],
-    datagram: &[u8],
-    store: &mut [u8],
-    from: usize,
-    to: usize,
-) -> Script {
-    if to < from || store.len() < to {
-        return script;
-    }
-    played(false, script, line, datagram, &mut store[from..to])
-}
-
-// A script before its first step, and how long the datagram is.
-#[derive(Clone, Copy)]
-struct Begun {
-    script: Script,
-    length: usize,
-}
-
-impl Begun {
-    // A script that has no datagram.
-    fn new(next: usize) -> Begun {
-        Begun {
-            script: Script::start(Packet::new(), Outcome::Done, 0, next),
-            length: 0,
+    let datagram = line.stored(datagram)?;
+    line.ended()?;
+    match reading::from_bytes(datagram) {
+        Ok(packet) => answer_from(packet, line, datagram, edits, room, page),
+        Err(why) => {
+            write_refused(page, why);
+            Some(())
         }
     }
 }
 
-// The packet that a script starts from.
-fn start(line: &[u8], at: usize, store: &mut [u8]) -> Begun {
-    let new = name_at(line, after(line, at, b' '), b"new;");
-    if new.next != NOWHERE {
-        return Begun::new(new.next);
-    }
-    let datagram = bytes_at(line, at, b' ', store, 0);
-    let next = ended(line, datagram.next);
-    if next == NOWHERE {
-        return Begun::new(NOWHERE);
-    }
-    let decoded = reading::from_bytes(part(store, 0, datagram.end));
-    let outcome = decoded.outcome;
-    let packet = decoded.packet;
-    Begun {
-        script: Script::start(packet, outcome, 0, next),
-        length: datagram.end,
-    }
-}
-
-// What is answered to a script that has no packet to show.
-fn judged(script: Script) -> Told {
-    if 0 < script.refused {
-        return Told::number(REFUSED, script.refused);
-    }
-    Told::no_request()
-}
-
-fn put_default<'a>(
-    out: &mut [u8],
-    place: usize,
+// Answers the steps that are left, over a packet.
+fn answer_from(
     packet: Packet,
-    datagram: &'a [u8],
-    edits: &'a [u8],
+    line: &mut Line,
+    datagram: &[u8],
+    edits: &mut [u8],
     room: &mut [u8],
-) -> usize {
-    let next = put_bytes(out, place, b" default ");
-    let written = Told::written(writing::to_bytes(packet, datagram, edits, room));
-    written.put(out, next, datagram, room)
+    page: &mut Page,
+) -> Option<()> {
+    let mut source = Source::new(false, edits);
+    let played = play(packet, line, datagram, &mut source)?;
+    if let Some(why) = played.refused {
+        write_refused(page, why);
+        return Some(());
+    }
+    let held = Held {
+        packet: played.packet,
+        stores: Stores {
+            datagram,
+            edits: source.edits,
+        },
+    };
+    write_getters(page, played.asked, held);
+    write_messages(page, held, room);
+    Some(())
 }
 
-fn put_unlimited<'a>(
-    out: &mut [u8],
-    place: usize,
-    packet: Packet,
-    datagram: &'a [u8],
-    edits: &'a [u8],
-    room: &mut [u8],
-) -> usize {
-    let next = put_bytes(out, place, b" none ");
-    let written = Told::written(writing::to_bytes_unlimited(packet, datagram, edits, room));
-    written.put(out, next, datagram, room)
+// Puts the message that the packet is written as, by the default limit and by none.
+fn write_messages(page: &mut Page, held: Held, room: &mut [u8]) {
+    page.text(b" default ");
+    let written = writing::to_bytes(held.packet, held.stores, room);
+    write_written(page, written, room);
+    page.text(b" none ");
+    let written = writing::to_bytes_unlimited(held.packet, held.stores, room);
+    write_written(page, written, room);
 }

@@ -1,181 +1,94 @@
 // Edit scripts: a packet, changed step by step.
 #![tactic(auto)]
 
-use compacting::{Compacted, compact};
-use edit_steps::{ASK, COMPACT, Step, raw_step_at, step_at};
+use compacting::compact;
+use edit_steps::{Source, Step, read_step};
 use edit_taking::take;
-use editing::Edited;
 use packet::Packet;
-use refusal::{Outcome, Refusal, Written};
-use words::{NOWHERE, byte_at, ended, finished, numbers_end};
+use packet::limits::MAX_STORE;
+use refusal::Refusal;
+use words::Line;
 
-// A packet on its way through a script.
+// A script that was played: the packet as its steps left it, why the last of them was refused, if it was, and the line from the
+// numbers on that are asked for, if some are.
 #[derive(Clone, Copy)]
-pub struct Script {
+pub struct Played<'l> {
     pub packet: Packet,
-    // How many bytes of the edit store are taken.
-    pub used: usize,
-    // Where the last step ends.
-    pub next: usize,
-    // The number of the refusal that ended the script, or 0.
-    pub refused: u64,
-    // Where the list of numbers stands that are asked for.
-    pub asked: usize,
+    pub refused: Option<Refusal>,
+    pub asked: Option<Line<'l>>,
 }
 
-impl Script {
-    // A script before its first step, which starts from a packet where an outcome lets it.
-    pub fn start(packet: Packet, outcome: Outcome, used: usize, next: usize) -> Script {
-        Script {
-            packet,
-            used,
-            next,
-            refused: number_of(outcome),
-            asked: NOWHERE,
-        }
-    }
-
-    // The script ends here, with no request.
-    fn lost(mut self) -> Script {
-        self.next = NOWHERE;
-        self
-    }
-
-    // The script ends here, since its values find no place in the edit store.
-    fn full(mut self) -> Script {
-        let why = Refusal::NoRoom;
-        self.refused = why.number() as u64;
-        self
-    }
-
-    // After an edit, whose value takes the edit store up to `used`.
-    fn edited(self, edited: Edited, used: usize, next: usize) -> Script {
-        let outcome = edited.outcome;
-        let packet = edited.packet;
-        Script {
-            packet,
-            used,
-            next,
-            refused: number_of(outcome),
-            asked: self.asked,
-        }
-    }
-
-    // After a compaction, which takes the edit store up to the new end.
-    fn compacted(self, compacted: Compacted, next: usize) -> Script {
-        let outcome = compacted.outcome;
-        let packet = compacted.packet;
-        match outcome {
-            Written::Length(end) => Script {
+// Takes the steps of a script, up to the end of the line or the first that is refused. A raw one neither asks nor compacts.
+pub fn play<'l>(
+    start: Packet,
+    line: &mut Line<'l>,
+    datagram: &[u8],
+    source: &mut Source,
+) -> Option<Played<'l>> {
+    let mut packet = start;
+    for _ in 0..line.len() {
+        if !line.is_at(b' ') {
+            line.finished()?;
+            return Some(Played {
                 packet,
-                used: end,
-                next,
-                refused: 0,
-                asked: self.asked,
-            },
-            Written::Refused(why) => Script {
-                packet,
-                used: self.used,
-                next,
-                refused: why.number() as u64,
-                asked: self.asked,
-            },
+                refused: None,
+                asked: None,
+            });
+        }
+        let step = read_step(line, source)?;
+        if source.raw && matches!(step, Step::Ask | Step::Compact) {
+            return None;
+        }
+        if let Step::Ask = step {
+            return ask(packet, line);
+        }
+        line.ended()?;
+        match taken(packet, step, datagram, source) {
+            Ok(edited) => packet = edited,
+            Err(why) => {
+                return Some(Played {
+                    packet,
+                    refused: Some(why),
+                    asked: None,
+                });
+            }
         }
     }
-
-    // After the step that asks, which is the last: the line ends after it.
-    fn asking(mut self, asked: usize, next: usize) -> Script {
-        self.asked = asked;
-        self.next = next;
-        self
-    }
+    None
 }
 
-// The number of a refusal; 0 for none.
-fn number_of(outcome: Outcome) -> u64 {
-    match outcome {
-        Outcome::Done => 0,
-        Outcome::Refused(why) => why.number() as u64,
-    }
+// The step that asks is the last: the line ends after the numbers.
+fn ask<'l>(packet: Packet, line: &mut Line<'l>) -> Option<Played<'l>> {
+    let asked = *line;
+    line.numbers()?;
+    line.finished()?;
+    Some(Played {
+        packet,
+        refused: None,
+        asked: Some(asked),
+    })
 }
 
-// Takes the steps of a script, up to the first that is refused or no step. Those of a raw one name ranges, and it neither asks
-// nor compacts.
-pub fn played(raw: bool, start: Script, line: &[u8], datagram: &[u8], edits: &mut [u8]) -> Script {
-    let mut script = start;
-    let mut i = 0;
-    while i < line.len() {
-        i = i + 1;
-        if 0 < script.refused {
-            return script;
-        }
-        if byte_at(line, script.next) != b' ' {
-            return script;
-        }
-        script = stepped(raw, script, line, datagram, edits);
+// Takes a step, whose values have to have found a place.
+fn taken(
+    packet: Packet,
+    step: Step,
+    datagram: &[u8],
+    source: &mut Source,
+) -> Result<Packet, Refusal> {
+    if source.free.is_none() {
+        return Err(Refusal::NoRoom);
     }
-    script
-}
-
-fn stepped(raw: bool, script: Script, line: &[u8], datagram: &[u8], edits: &mut [u8]) -> Script {
-    if raw {
-        return raw_stepped(script, line, edits);
+    match step {
+        Step::Compact => compacted(packet, datagram, source),
+        _ => take(packet, step, source.edits),
     }
-    let step = step_at(line, script.next, edits, script.used);
-    if step.index == ASK {
-        return asked(script, line, step.asked);
-    }
-    if step.index == COMPACT {
-        return compacted(script, ended(line, step.asked), datagram, edits);
-    }
-    taken(script, step, line, edits)
-}
-
-fn raw_stepped(script: Script, line: &[u8], edits: &mut [u8]) -> Script {
-    let step = raw_step_at(line, script.next, script.used);
-    if step.index == ASK || step.index == COMPACT {
-        return script.lost();
-    }
-    taken(script, step, line, edits)
 }
 
 // Compacts, with a second buffer of its own.
-fn compacted(script: Script, next: usize, datagram: &[u8], edits: &mut [u8]) -> Script {
-    if next == NOWHERE {
-        return script.lost();
-    }
-    let packet = script.packet;
-    let mut second = [0u8; 70000];
-    let compacted = compact_over(packet, datagram, edits, &mut second);
-    script.compacted(compacted, next)
-}
-
-fn compact_over(
-    packet: Packet,
-    datagram: &[u8],
-    edits: &mut [u8],
-    second: &mut [u8; 70000],
-) -> Compacted {
-    compact(packet, datagram, edits, second)
-}
-
-fn asked(script: Script, line: &[u8], at: usize) -> Script {
-    let next = numbers_end(line, at);
-    if !finished(line, next) {
-        return script.lost();
-    }
-    script.asking(at, next)
-}
-
-fn taken(script: Script, step: Step, line: &[u8], edits: &mut [u8]) -> Script {
-    let values = step.values;
-    let next = ended(line, values.next);
-    let packet = script.packet;
-    if next == NOWHERE {
-        return script.lost();
-    }
-    if values.end == NOWHERE {
-        return script.full();
-    }
-    script.edited(take(packet, step, edits), values.end, next)
+fn compacted(packet: Packet, datagram: &[u8], source: &mut Source) -> Result<Packet, Refusal> {
+    let mut second = [0u8; MAX_STORE];
+    let compacted = compact(packet, datagram, source.edits, &mut second)?;
+    source.free = Some(compacted.end);
+    Ok(compacted.packet)
 }

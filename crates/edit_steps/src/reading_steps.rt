@@ -1,142 +1,94 @@
 // Steps, read from the words of a line.
-use crate::names::{ADD, CLASS, CONTENT_FORMAT, ID, OBSERVE, PAYLOAD, SET, TOKEN, most_of, named};
-use crate::values::{Values, ranges_at, values_at};
+use crate::source::Source;
+use crate::values::Values;
 use class::MessageClass;
-use class_words::{Class, class_at};
-use words::{NOWHERE, Named, Number, after, low32, name_at, number_at, past};
+use class_words::{read_class, read_type};
+use header::MessageType;
+use packet::Range;
+use words::{Line, separator};
 
-// A step: which it is, its number, its class and its values. What it does not have is 0, empty or none. Where it ends
-// stands in its values.
 #[derive(Clone, Copy)]
-pub struct Step {
-    pub index: usize,
-    pub number: u64,
-    pub class: MessageClass,
-    pub values: Values,
-    // Where what is asked for stands.
-    pub asked: usize,
+pub enum Step {
+    Add { number: u16, value: Range },
+    Set { number: u16, values: Values },
+    Clear(u16),
+    ClearAll,
+    ContentFormat { format: u16, start: u32 },
+    Observe { value: u32, start: u32 },
+    Version(u8),
+    Type(MessageType),
+    Class(MessageClass),
+    Id(u16),
+    Token(Range),
+    Payload(Range),
+    // To tell what the options are of the numbers that follow.
+    Ask,
+    Compact,
 }
 
-// Reads a step whose values are bytes, which go to the edit store from a place on.
-pub fn step_at(line: &[u8], at: usize, edits: &mut [u8], used: usize) -> Step {
-    let name = named(line, past(line, at, b" ; "));
-    let number = number_of(line, name);
-    let class = class_of(line, name.index, number.next);
-    let code = class.class;
-    let values = values_of(line, name.index, number.value, class.next, edits, used);
-    Step {
-        index: name.index,
-        number: number.value,
-        class: code,
-        values,
-        asked: name.next,
-    }
-}
-
-// Reads a step whose values are ranges.
-pub fn raw_step_at(line: &[u8], at: usize, used: usize) -> Step {
-    let name = named(line, past(line, at, b" ; "));
-    let number = number_of(line, name);
-    let class = class_of(line, name.index, number.next);
-    let code = class.class;
-    let values = ranges_of(line, name.index, class.next, used);
-    Step {
-        index: name.index,
-        number: number.value,
-        class: code,
-        values,
-        asked: name.next,
-    }
-}
-
-// The number of a step that has one.
-fn number_of(line: &[u8], name: Named) -> Number {
-    if name.index <= ID {
-        return number_at(line, name.next, b' ', most_of(name.index));
-    }
-    Number {
-        value: 0,
-        next: name.next,
-    }
-}
-
-// The class of the step that has one.
-fn class_of(line: &[u8], index: usize, at: usize) -> Class {
-    if index == CLASS {
-        return class_at(line, at);
-    }
-    Class {
-        class: MessageClass::Empty,
-        next: at,
-    }
-}
-
-// The values of a step that has some.
-fn values_of(
-    line: &[u8],
-    index: usize,
-    number: u64,
-    at: usize,
-    edits: &mut [u8],
-    used: usize,
-) -> Values {
-    match index {
-        ADD | TOKEN | PAYLOAD => one(values_at(line, at, edits, used)),
-        SET => {
-            let none = none_at(line, at);
-            if none != NOWHERE {
-                return Values::none(used, none);
-            }
-            values_at(line, at, edits, used)
+// Reads a step, whose values come from a source.
+pub fn read_step(line: &mut Line, source: &mut Source) -> Option<Step> {
+    line.past(b" ; ")?;
+    match line.name() {
+        b"add" => Some(Step::Add {
+            number: line.number(b' ')?,
+            value: source.read_value(line, b' ')?,
+        }),
+        b"set" => read_set(line, source),
+        b"clear" => Some(Step::Clear(line.number(b' ')?)),
+        b"clear-all" => Some(Step::ClearAll),
+        b"content-format" => {
+            let format = line.number(b' ')?;
+            let start = source.read_start(line, length(format as u32))?;
+            Some(Step::ContentFormat { format, start })
         }
-        CONTENT_FORMAT | OBSERVE => Values::start(low32(used as u64), past_uint(used, number), at),
-        _ => Values::none(used, at),
-    }
-}
-
-// The ranges of a step that has some, or the place where its number is to be written.
-fn ranges_of(line: &[u8], index: usize, at: usize, used: usize) -> Values {
-    match index {
-        ADD | TOKEN | PAYLOAD => one(ranges_at(line, at, used)),
-        SET => {
-            let none = none_at(line, at);
-            if none != NOWHERE {
-                return Values::none(used, none);
-            }
-            ranges_at(line, at, used)
+        b"observe" => {
+            let value = line.number(b' ')?;
+            let start = source.read_start(line, length(value))?;
+            Some(Step::Observe { value, start })
         }
-        CONTENT_FORMAT | OBSERVE => {
-            let start = number_at(line, at, b' ', 4294967295);
-            Values::start(low32(start.value), used, start.next)
+        b"token" => Some(Step::Token(source.read_value(line, b' ')?)),
+        b"payload" => Some(Step::Payload(source.read_value(line, b' ')?)),
+        b"ask" => Some(Step::Ask),
+        b"compact" => Some(Step::Compact),
+        name => read_header_step(line, name),
+    }
+}
+
+// Reads a step that changes the header.
+fn read_header_step(line: &mut Line, name: &[u8]) -> Option<Step> {
+    match name {
+        b"version" => Some(Step::Version(line.number(b' ')?)),
+        b"type" => Some(Step::Type(read_type(line)?)),
+        b"class" => Some(Step::Class(read_class(line)?)),
+        b"id" => Some(Step::Id(line.number(b' ')?)),
+        _ => None,
+    }
+}
+
+// Reads the number and the values of a step that sets an option: a list of some, or a word for none.
+fn read_set(line: &mut Line, source: &mut Source) -> Option<Step> {
+    let number = line.number(b' ')?;
+    let mut values = Values::new();
+    if line.past(b" none").is_some() {
+        return Some(Step::Set { number, values });
+    }
+    for i in 0..line.len() {
+        values.push(source.read_value(line, separator(i))?);
+        if !line.is_at(b',') {
+            return Some(Step::Set { number, values });
         }
-        _ => Values::none(used, at),
     }
+    None
 }
 
-// Where the word ends that says that there are no values.
-fn none_at(line: &[u8], at: usize) -> usize {
-    let name = name_at(line, after(line, at, b' '), b"none;");
-    name.next
-}
-
-// The values of a step that has one.
-fn one(values: Values) -> Values {
-    if values.count == 1 {
-        return values;
-    }
-    Values::none(values.end, NOWHERE)
-}
-
-// The place after a number's shortest bytes.
-fn past_uint(place: usize, number: u64) -> usize {
-    if 70000 < place {
-        return NOWHERE;
-    }
+// How many bytes a number has at the shortest.
+fn length(number: u32) -> usize {
     match number {
-        0 => place,
-        1..=255 => place + 1,
-        256..=65535 => place + 2,
-        65536..=16777215 => place + 3,
-        _ => place + 4,
+        0 => 0,
+        1..=255 => 1,
+        256..=65535 => 2,
+        65536..=16777215 => 3,
+        _ => 4,
     }
 }

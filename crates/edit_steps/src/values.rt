@@ -1,133 +1,44 @@
-// The values of a step.
-use packet::{Home, Range};
-use packet_words::range;
-use raw_words::range_at;
-use words::{NOWHERE, byte_at, bytes_at, separator};
+// The values of a step that sets an option.
+use packet::Range;
 
-// Values that were read from a word: the ranges of the first 129 as three numbers each, how many of those there are, the place
-// of the edit store after the values, NOWHERE if they find no place in it, and where the word ends.
+// The most values that are kept: one more than a packet has options, so that a list that is too long is refused as such.
+const MOST: usize = 129;
+
+// How many numbers those are.
+const SIZE: usize = 387;
+
+// The ranges of some values, as three numbers each: 0 or 1 for their store, their start and their length. Its memory is fixed,
+// since nothing here allocates.
 #[derive(Clone, Copy)]
 pub struct Values {
-    pub ranges: [u32; 387],
-    pub count: usize,
-    pub end: usize,
-    pub next: usize,
+    numbers: [u32; SIZE],
+    count: usize,
 }
 
 impl Values {
     // No values.
-    pub fn none(end: usize, next: usize) -> Values {
+    pub fn new() -> Values {
         Values {
-            ranges: [0; 387],
+            numbers: [0; SIZE],
             count: 0,
-            end,
-            next,
         }
     }
 
-    // The first of the values.
-    pub fn first(self) -> Range {
-        let ranges = self.ranges;
-        let home = if ranges[0] == 0 {
-            Home::Datagram
-        } else {
-            Home::Edits
-        };
-        Range {
-            home,
-            start: ranges[1],
-            len: ranges[2],
+    // Adds a value, if it is one of those that are kept.
+    pub fn push(&mut self, value: Range) {
+        if MOST <= self.count {
+            return;
         }
+        let at = 3 * self.count;
+        self.numbers[at] = value.home as u32;
+        self.numbers[at + 1] = value.start;
+        self.numbers[at + 2] = value.len;
+        self.count = self.count + 1;
     }
 
-    // A place where a number is to be written.
-    pub fn start(start: u32, end: usize, next: usize) -> Values {
-        let mut ranges = [0u32; 387];
-        ranges[1] = start;
-        Values {
-            ranges,
-            count: 0,
-            end,
-            next,
-        }
-    }
-}
-
-// The number that stands for a home.
-fn number_of(home: Home) -> u32 {
-    match home {
-        Home::Datagram => 0,
-        Home::Edits => 1,
-    }
-}
-
-// Reads a list of values, whose bytes go to the edit store from a place on.
-pub fn values_at(line: &[u8], at: usize, edits: &mut [u8], place: usize) -> Values {
-    let mut ranges = [0u32; 387];
-    let mut count = 0;
-    let mut end = place;
-    let mut next = at;
-    let mut i = 0;
-    while i < line.len() {
-        let value = bytes_at(line, next, separator(i), edits, end);
-        if count < 129 {
-            let taken = range(Home::Edits, end, value.end);
-            ranges[count * 3] = 1;
-            ranges[count * 3 + 1] = taken.start;
-            ranges[count * 3 + 2] = taken.len;
-            count = count + 1;
-        }
-        end = value.end;
-        next = value.next;
-        i = i + 1;
-        if byte_at(line, next) != b',' {
-            return Values {
-                ranges,
-                count,
-                end,
-                next,
-            };
-        }
-    }
-    Values {
-        ranges,
-        count,
-        end,
-        next: NOWHERE,
-    }
-}
-
-// Reads a list of ranges.
-pub fn ranges_at(line: &[u8], at: usize, end: usize) -> Values {
-    let mut ranges = [0u32; 387];
-    let mut count = 0;
-    let mut next = at;
-    let mut i = 0;
-    while i < line.len() {
-        let value = range_at(line, next, separator(i));
-        if count < 129 {
-            let taken = value.range;
-            let home = taken.home;
-            ranges[count * 3] = number_of(home);
-            ranges[count * 3 + 1] = taken.start;
-            ranges[count * 3 + 2] = taken.len;
-            count = count + 1;
-        }
-        next = value.next;
-        i = i + 1;
-        if byte_at(line, next) != b',' {
-            return Values {
-                ranges,
-                count,
-                end,
-                next,
-            };
-        }
-    }
-    Values {
-        ranges,
-        count,
-        end,
-        next: NOWHERE,
+    // The numbers of the values.
+    pub fn numbers(&self) -> &[u32] {
+        let end = self.count.saturating_mul(3);
+        self.numbers.get(..end).unwrap_or(&[])
     }
 }

@@ -9,89 +9,76 @@ ghost use Rattle.splicing.specs.Edited.{Edits};
 ghost use Rattle.splicing.specs.Splice.{packet_with, homed};
 ghost use Rattle.editing.specs.Edit.{orderly, token_set, payload_set, added, option_set, cleared, cleared_all};
 
-use judging::{Span, span_of};
+use judging::span_of;
 use packet::limits::{MAX_OPTIONS, MAX_TOKEN};
 use packet::{Home, OptionRecord, Packet, Range};
 use refusal::Refusal;
-pub use splicing::Edited;
-use splicing::{done, refused, spliced};
+use splicing::spliced;
 
 // Sets the token.
-pub fn set_token(packet: Packet, home: Home, start: u32, len: u32) -> Edited
-    ensures { Edits packet (token_set packet (record { home = home; start = start; len = len })) result }
+pub fn set_token(packet: Packet, range: Range) -> Result<Packet, Refusal>
+    ensures { Edits packet (token_set packet range) result }
 {
-    if MAX_TOKEN < len {
-        return refused(packet, Refusal::BadRecord);
+    if MAX_TOKEN < range.len {
+        return Err(Refusal::BadRecord);
     }
     let payload = packet.payload;
-    with_ranges(packet, Range { home, start, len }, payload)
+    with_ranges(packet, range, payload)
 }
 
 // Sets the payload.
-pub fn set_payload(packet: Packet, home: Home, start: u32, len: u32) -> Edited
-    ensures { Edits packet (payload_set packet (record { home = home; start = start; len = len })) result }
+pub fn set_payload(packet: Packet, range: Range) -> Result<Packet, Refusal>
+    ensures { Edits packet (payload_set packet range) result }
 {
     let token = packet.token;
-    with_ranges(packet, token, Range { home, start, len })
+    with_ranges(packet, token, range)
 }
 
 // Replaces the options of a number by those of ranges, in their order. The ranges are numbers in threes: a home, 0 for the
 // datagram or 1 for the edit store, a start and a length; numbers left over at the end name none.
-pub fn set_option(packet: Packet, number: u16, ranges: &[u32]) -> Edited
+pub fn set_option(packet: Packet, number: u16, ranges: &[u32]) -> Result<Packet, Refusal>
     ensures { Edits packet (homed ranges.now (option_set packet number)) result }
 {
-    match span_of(packet, number) {
-        Span::Misordered => refused(packet, Refusal::BadRecord),
-        Span::Between { low, high } => spliced(packet, low, high, number, ranges),
-    }
+    let span = span_of(packet, number)?;
+    spliced(packet, span.low, span.high, number, ranges)
 }
 
 // Adds an option after the last of the same or a lower number.
-pub fn add_option(packet: Packet, number: u16, home: Home, start: u32, len: u32) -> Edited
-    ensures { Edits packet (added packet number (record { home = home; start = start; len = len })) result }
+pub fn add_option(packet: Packet, number: u16, range: Range) -> Result<Packet, Refusal>
+    ensures { Edits packet (added packet number range) result }
 {
-    match span_of(packet, number) {
-        Span::Misordered => refused(packet, Refusal::BadRecord),
-        Span::Between { low: _, high } => {
-            spliced(packet, high, high, number, &[number_of(home), start, len])
-        }
-    }
+    let span = span_of(packet, number)?;
+    let home = range.home;
+    let numbers = [number_of(home), range.start, range.len];
+    spliced(packet, span.high, span.high, number, &numbers)
 }
 
 // Removes the options of a number: no range replaces them.
-pub fn clear_option(packet: Packet, number: u16) -> Edited
+pub fn clear_option(packet: Packet, number: u16) -> Result<Packet, Refusal>
     ensures { Edits packet (cleared packet number) result }
 {
-    set_option(packet, number, &[0u32; 0])
+    set_option(packet, number, &[])
 }
 
 // Removes every option.
-pub fn clear_all_options(mut packet: Packet) -> Edited
+pub fn clear_all_options(mut packet: Packet) -> Result<Packet, Refusal>
     ensures { Edits packet (cleared_all packet) result }
 {
     // Any number serves: only the order counts.
-    match span_of(packet, 0) {
-        Span::Misordered => refused(packet, Refusal::BadRecord),
-        Span::Between { low: _, high: _ } => {
-            packet.count = 0;
-            packet.options = [OptionRecord::EMPTY; MAX_OPTIONS];
-            done(packet)
-        }
-    }
+    span_of(packet, 0)?;
+    packet.count = 0;
+    packet.options = [OptionRecord::EMPTY; MAX_OPTIONS];
+    Ok(packet)
 }
 
 // The packet with this token and this payload. The records stay, and the places past them become empty.
-fn with_ranges(mut packet: Packet, token: Range, payload: Range) -> Edited
+fn with_ranges(mut packet: Packet, token: Range, payload: Range) -> Result<Packet, Refusal>
     ensures { Edits packet (orderly packet (given (packet_with packet token (records_of packet) payload))) result }
 {
-    match span_of(packet, 0) {
-        Span::Misordered => refused(packet, Refusal::BadRecord),
-        Span::Between { low: _, high: _ } => {
-            packet.token = token;
-            packet.payload = payload;
-            spliced(packet, 0, 0, 0, &[0u32; 0])
-        }
-    }
+    span_of(packet, 0)?;
+    packet.token = token;
+    packet.payload = payload;
+    spliced(packet, 0, 0, 0, &[])
 }
 
 // The number that stands for a home.

@@ -3,67 +3,55 @@
 
 use editing::add_option;
 use hexadecimal::put_hex;
-use output::Console;
-use packet::{Home, Packet};
-use placing::put_byte;
-use refusal::{Outcome, Refusal, Written};
-use reports::{flushed, put_named};
+use packet::{Home, Packet, Range, Stores};
+use refusal::Refusal;
+use reports::{Failure, Numbered, Page};
 use tables::option_number;
-use words::part;
 
 // Asks for the same in English: the message with one Uri-Query option more, whose value, lang=en, is the edit store. The
 // datagram is only read.
-fn in_english<'a>(datagram: &'a [u8], edits: &'a [u8], out: &mut [u8]) -> Written {
-    let read = reading::from_bytes_strict(datagram);
-    let how = read.outcome;
-    match how {
-        Outcome::Refused(why) => Written::Refused(why),
-        Outcome::Done => with_query(read.packet, datagram, edits, out),
-    }
+fn in_english(stores: Stores, out: &mut [u8]) -> Result<usize, Refusal> {
+    let packet = reading::from_bytes_strict(stores.datagram)?;
+    let asked = with_query(packet, stores)?;
+    writing::to_bytes_strict(asked, stores, out)
 }
 
 // What has no path is left as it is.
-fn with_query<'a>(packet: Packet, datagram: &'a [u8], edits: &'a [u8], out: &mut [u8]) -> Written {
-    let path = packet.get_first_option(datagram, edits, option_number::URI_PATH);
-    if path.len() == 0 {
-        return writing::to_bytes_strict(packet, datagram, edits, out);
+fn with_query(packet: Packet, stores: Stores) -> Result<Packet, Refusal> {
+    let path = packet.get_first_option(stores, option_number::URI_PATH);
+    if path.is_empty() {
+        return Ok(packet);
     }
-    let edited = add_option(packet, option_number::URI_QUERY, Home::Edits, 0, 7);
-    let how = edited.outcome;
-    match how {
-        Outcome::Refused(why) => Written::Refused(why),
-        Outcome::Done => writing::to_bytes_strict(edited.packet, datagram, edits, out),
-    }
+    let query = Range {
+        home: Home::Edits,
+        start: 0,
+        len: 7,
+    };
+    add_option(packet, option_number::URI_QUERY, query)
 }
 
 fn main(rt: HostRuntime) {
-    let console = Console::of(&rt);
-    let mut datagram = [0u8; 65536];
-    let filled = reread::fill(console, &mut rt.stdin(), &mut datagram, 0);
-    if !filled.failed {
-        show(console, part(&datagram, 0, filled.count));
-    }
+    reports::end(&rt, show(&rt));
 }
 
 // A line with the bytes of what is written, or with the refusal.
-fn show(console: Console, datagram: &[u8]) {
+fn show(rt: &HostRuntime) -> Result<(), Failure> {
+    let mut room = [0u8; 65536];
+    let datagram = reread::beginning(rt, &mut room)?;
     let mut out = [0u8; 1152];
-    match in_english(datagram, b"lang=en", &mut out) {
-        Written::Refused(why) => show_refused(console, why),
-        Written::Length(length) => show_bytes(console, part(&out, 0, length)),
-    }
-}
-
-fn show_bytes(console: Console, bytes: &[u8]) {
     let mut line = [0u8; 2400];
-    let next = put_hex(&mut line, 0, bytes);
-    let next = put_byte(&mut line, next, b'\n');
-    flushed(console, &line, next);
-}
-
-fn show_refused(console: Console, why: Refusal) {
-    let mut line = [0u8; 100];
-    let next = put_named(&mut line, 0, why);
-    let next = put_byte(&mut line, next, b'\n');
-    flushed(console, &line, next);
+    let mut page = Page::new(rt.stdout(), &mut line);
+    let stores = Stores {
+        datagram,
+        edits: b"lang=en",
+    };
+    match in_english(stores, &mut out) {
+        Err(why) => writeln!(page, "{}", Numbered(why)),
+        Ok(length) => {
+            let bytes = out.get(..length).unwrap_or(b"");
+            page.put(|out, at| put_hex(out, at, bytes));
+            page.put_bytes(b"\n");
+        }
+    }
+    page.finish()
 }

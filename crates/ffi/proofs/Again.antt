@@ -37,11 +37,11 @@ use Rattle.reading.proofs.Accept.{meant, unpaid, means, laid_out, laid_before, r
 use Rattle.reading.proofs.Kept.{Kept, kept}
 use Rattle.measuring.specs.Measuring.{sent_payload, strictly, limited}
 use Rattle.measuring.specs.declared.Limit.TheVariants.{Unlimited}
-use Rattle.writing.specs.Writing.{sent, bytes_written, writing}
+use Rattle.writing.specs.Writing.{bytes_written, writing}
 use Rattle.writing.proofs.Strict.{passes, wellformed_strict}
 use Rattle.flat_writing.specs.FlatWriting.{copying, packet_of as packet_in}
 use Rattle.flat_measuring.proofs.Sent.{empty_class, sent_other}
-use Rattle.ffi.specs.Copied.{sent_end, length_in}
+use Rattle.ffi.specs.Copied.{sent_end}
 use Rattle.scanning.specs.Scanning.{Span, last_end, span_of, judged}
 use Rattle.scanning.proofs.Judged.{given_read}
 
@@ -209,10 +209,10 @@ again strict s b m e =
 -- What copying answers, and what the output then holds.
 module _ (strict : Bool) (s old : List ℕ) where
   pub again_refused : (k : ℕ) → reading strict s ≡ refused k
-      → (length_in (refused k) ≡ length_in (copying strict (length old) (stores s []) (reading strict s))) × (old ≡ after (copying strict (length old) (stores s []) (reading strict s)) 0 (bytes_written strict (stores s []) (packet_in (reading strict s))) old)
+      → (refused k ≡ copying strict (length old) (stores s []) (reading strict s)) × (old ≡ after (copying strict (length old) (stores s []) (reading strict s)) 0 (bytes_written strict (stores s []) (packet_in (reading strict s))) old)
   again_refused k e = rw e (refl, refl)
 
   pub again_put : (m : Span) → Again strict s m → (new : List ℕ) (r : Answer ℕ)
       → (r ≡ fitted (length old) (take (sent_end s m.end m.payload) s)) × (new ≡ after (fitted (length old) (take (sent_end s m.end m.payload) s)) 0 (take (sent_end s m.end m.payload) s) old)
-      → (length_in r ≡ length_in (copying strict (length old) (stores s []) (reading strict s))) × (new ≡ after (copying strict (length old) (stores s []) (reading strict s)) 0 (bytes_written strict (stores s []) (packet_in (reading strict s))) old)
-  again_put m a new r h = rw (a.answer (length old), a.bytes) (ap length_in h.0, h.1)
+      → (r ≡ copying strict (length old) (stores s []) (reading strict s)) × (new ≡ after (copying strict (length old) (stores s []) (reading strict s)) 0 (bytes_written strict (stores s []) (packet_in (reading strict s))) old)
+  again_put m a new r h = rw (a.answer (length old), a.bytes) h

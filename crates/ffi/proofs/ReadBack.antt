@@ -8,7 +8,7 @@ use lib.ListN.{length, drop, get_or, replicate}
 use lib.Seq.{drop-append_seam}
 use borrow.Author.Tests.{le-ltb}
 use Rattle.ground.specs.Part.{Bytes}
-use Rattle.ground.proofs.Choice.{on, on_lt, on_le, on_eq}
+use Rattle.ground.proofs.Choice.{on_lt, on_le, on_eq}
 use Rattle.refusal.specs.Answer.{Answer, given, refused, onward, fitted}
 use Rattle.refusal.proofs.Answers.{Given, on_given, given_onward}
 use Rattle.rfc.specs.Message.{Message, layout}

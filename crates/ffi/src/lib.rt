@@ -15,8 +15,8 @@ ghost use Rattle.flat_writing.specs.FlatWriting.{packet_of, packet_over, copying
 ghost use Rattle.ffi.specs.Handed.{handed, number_in};
 ghost use Rattle.ffi.specs.Copied.{length_in, sent_end};
 
-use refusal::{Outcome, Refusal, Written};
-use scanning::Extent;
+use packet::Stores;
+use refusal::Refusal;
 
 // The version of the flat form.
 pub fn rickwinter_version() -> u32
@@ -47,7 +47,7 @@ pub fn rickwinter_v2_write<'a>(
     ensures value { result ≡ length_in (copying strict (length out.old) (stores datagram.now edits.now) (packet_over (stores datagram.now edits.now) packet.now)) }
     ensures out_after { out.new ≡ after (copying strict (length out.old) (stores datagram.now edits.now) (packet_over (stores datagram.now edits.now) packet.now)) 0 (bytes_written strict (stores datagram.now edits.now) (packet_of (packet_over (stores datagram.now edits.now) packet.now))) out.old }
 {
-    length_or_refusal(flat_writing::write(strict, packet, datagram, edits, out))
+    length_or_refusal(flat_writing::write(strict, packet, Stores { datagram, edits }, out))
 }
 
 // Reads a datagram and writes its packet again, without a limit. The length of what stands at the start of the output; or
@@ -56,17 +56,17 @@ pub fn rickwinter_copy(strict: bool, datagram: &[u8], out: &mut [u8]) -> u64
     ensures value { result ≡ length_in (copying strict (length out.old) (stores datagram.now []) (reading strict datagram.now)) }
     ensures out_after { out.new ≡ after (copying strict (length out.old) (stores datagram.now []) (reading strict datagram.now)) 0 (bytes_written strict (stores datagram.now []) (packet_of (reading strict datagram.now))) out.old }
 {
-    match scanning::judge(strict, datagram) {
-        Extent::Refused(e) => length_or_refusal(Written::Refused(e)),
-        Extent::Message {
-            count: _,
-            end,
-            payload,
-        } => {
-            let last = sent_end(datagram, end, payload);
-            length_or_refusal(put_front(out, datagram, last))
-        }
-    }
+    length_or_refusal(copy(strict, datagram, out))
+}
+
+// The same, as what other functions answer.
+fn copy(strict: bool, datagram: &[u8], out: &mut [u8]) -> Result<usize, Refusal>
+    ensures result_value { written result ≡ copying strict (length out.old) (stores datagram.now []) (reading strict datagram.now) }
+    ensures out_after { out.new ≡ after (copying strict (length out.old) (stores datagram.now []) (reading strict datagram.now)) 0 (bytes_written strict (stores datagram.now []) (packet_of (reading strict datagram.now))) out.old }
+{
+    let extent = scanning::judge(strict, datagram)?;
+    let last = sent_end(datagram, extent.end, extent.payload);
+    put_front(out, datagram, last)
 }
 
 // Where what is written of a datagram ends: with its options where no payload is sent, since it is empty or that of code 0.
@@ -84,33 +84,33 @@ fn sent_end(datagram: &[u8], end: usize, payload: usize) -> usize
 }
 
 // Puts the first bytes of a datagram at the start of the output.
-fn put_front(out: &mut [u8], datagram: &[u8], last: usize) -> Written
+fn put_front(out: &mut [u8], datagram: &[u8], last: usize) -> Result<usize, Refusal>
     requires { last ≤ length datagram.now }
     ensures result_value { written result ≡ fitted (length out.old) (take last datagram.now) }
     ensures out_after { out.new ≡ after (fitted (length out.old) (take last datagram.now)) 0 (take last datagram.now) out.old }
 {
     if out.len() < last {
-        return Written::Refused(Refusal::NoRoom);
+        return Err(Refusal::NoRoom);
     }
-    Written::Length(placing::put_bytes(out, 0, &datagram[..last]))
+    Ok(placing::put_bytes(out, 0, &datagram[..last]))
 }
 
 // 0 where all was done, else the refusal's number.
-fn number_of(how: Outcome) -> u32
+fn number_of(how: Result<(), Refusal>) -> u32
     ensures { result ≡ number_in (outcome how) }
 {
     match how {
-        Outcome::Done => 0,
-        Outcome::Refused(e) => e.number() as u32,
+        Ok(()) => 0,
+        Err(e) => e.number() as u32,
     }
 }
 
 // A length as it is; a refusal above every length.
-fn length_or_refusal(answer: Written) -> u64
+fn length_or_refusal(answer: Result<usize, Refusal>) -> u64
     ensures { result ≡ length_in (written answer) }
 {
     match answer {
-        Written::Length(n) => n as u64,
-        Written::Refused(e) => 4294967296 + e.number() as u64,
+        Ok(n) => n as u64,
+        Err(e) => 4294967296 + e.number() as u64,
     }
 }

@@ -10,21 +10,21 @@ ghost use Rattle.flat.specs.Flat.{number_of_home, flat_head, flat_records, flat,
 
 use header::Header;
 use packet::{Home, Packet, Range};
-use refusal::{Outcome, Refusal};
+use refusal::Refusal;
 
 // Puts the flat form of a packet at the start of the output. Where that has too little room it is as it was, and the answer
 // NoRoom (12).
-pub fn put_flat(out: &mut [u32], packet: Packet) -> Outcome
+pub fn put_flat(out: &mut [u32], packet: Packet) -> Result<(), Refusal>
     ensures result_value { outcome result ≡ putting (length out.old) packet }
     ensures out_after { out.new ≡ after (putting (length out.old) packet) 0 (flat packet) out.old }
 {
     let count = packet.option_count();
     if out.len() < 11 + 4 * count {
-        return Outcome::Refused(Refusal::NoRoom);
+        return Err(Refusal::NoRoom);
     }
     put_head(out, packet.header, packet.token, packet.payload, count);
     put_records(out, packet, count);
-    Outcome::Done
+    Ok(())
 }
 
 // The numbers before the records.
@@ -54,8 +54,7 @@ fn put_records(out: &mut [u32], packet: Packet, count: usize)
     requires { (count ≡ length (records_of packet)) × (11 + 4 * count ≤ length out.old) }
     ensures { out.new ≡ sets out.old 11 (flat_records (records_of packet)) }
 {
-    let mut i = 0;
-    while i < count {
+    for i in 0..count {
         let record = packet.options[i];
         let home = record.home;
         let at = 11 + 4 * i;
@@ -63,7 +62,6 @@ fn put_records(out: &mut [u32], packet: Packet, count: usize)
         out[at + 1] = number_of_home(home);
         out[at + 2] = record.start;
         out[at + 3] = record.len;
-        i = i + 1;
     }
 }
 

@@ -6,15 +6,16 @@ use mathlib.Core.List.{List}
 use lib.ListN.{length, get_or}
 use lib.Dec.{ltb}
 use borrow.Author.Tests.{le-ltb, ltb-false}
+use Rattle.std.specs.Prelude.{Ok, Err}
 use Rattle.ground.specs.Choice.{either}
 use Rattle.ground.proofs.Choice.{on, neither, none_of, either_right}
 use Rattle.refusal.specs.Answer.{Answer, given, refused, onward}
+use Rattle.refusal.specs.declared.Refusal.TheVariants.{BadRecord}
 use Rattle.refusal.proofs.Answers.{not_refused, same_given}
 use Rattle.packet.specs.Packet.{records_of}
 use Rattle.packet.specs.declared.Packet.{Packet}
 use Rattle.judging.specs.Judge.{is_too_long, falling, misordered, bad_value, bad_values, bad_ranges, bad_packet, options_size, judged, judging}
 use Rattle.judging.specs.declared.Lengths.{Lengths}
-use Rattle.judging.specs.declared.Judged.TheVariants.{OptionsSize, BadRecord}
 use Rattle.judging.proofs.Judging.{Judging, Follows, follows, finds, bad_records}
 use Rattle.measuring.specs.Measuring.{strictly, limited, size_fitted, written_size, measured}
 use Rattle.measuring.specs.declared.Limit.TheVariants.{Unlimited}
@@ -34,19 +35,19 @@ long_enough l e =
 
 module _ (lengths : Lengths) (l : List ℕ) where
   -- One bad thing is enough for 11, in the numbers or in their packet.
-  pub not_flat : bad_flat l ≡ true → judged BadRecord ≡ judging_in lengths l
+  pub not_flat : bad_flat l ≡ true → judged (Err BadRecord) ≡ judging_in lengths l
   unfolding judging_in unflat
   not_flat e = rw e
 
-  bad : bad_packet lengths (packet_in l) ≡ true → judged BadRecord ≡ judging_in lengths l
+  bad : bad_packet lengths (packet_in l) ≡ true → judged (Err BadRecord) ≡ judging_in lengths l
   unfolding judging_in unflat judging
   bad e = on (λ (a : Answer Packet). refused 11 ≡ onward a (judging lengths)) (bad_flat l) (λ _. refl) (λ _. rw e)
 
-  pub frame_bad : bad_frame l ≡ true → judged BadRecord ≡ judging_in lengths l
+  pub frame_bad : bad_frame l ≡ true → judged (Err BadRecord) ≡ judging_in lengths l
   unfolding bad_flat
   frame_bad e = not_flat (rw e)
 
-  pub short_bad : cut_short l ≡ true → judged BadRecord ≡ judging_in lengths l
+  pub short_bad : cut_short l ≡ true → judged (Err BadRecord) ≡ judging_in lengths l
   unfolding cut_short
   short_bad e = frame_bad (go (bad_frame l) refl)
     where
@@ -57,7 +58,7 @@ module _ (lengths : Lengths) (l : List ℕ) where
           let short : true ≡ false = sym e ∙ rw (le-ltb (length l) 11 f.head, le-ltb 128 (get_or l 10 0) (small l f.fields).count, le-ltb (length l) (11 + 4 * get_or l 10 0) f.records) in
           cc
 
-  pub start_bad : bad_start lengths l ≡ true → judged BadRecord ≡ judging_in lengths l
+  pub start_bad : bad_start lengths l ≡ true → judged (Err BadRecord) ≡ judging_in lengths l
   unfolding bad_packet packet_in header_in
   start_bad e =
       bad
@@ -77,7 +78,7 @@ module _ (lengths : Lengths) (l : List ℕ) where
         packet = rw (start.0, le-ltb 128 (get_or l 10 0) (small l (framed l f).fields).count, o, start.1, v);
       }
 
-  pub counts : (size : ℕ) → Sound lengths l → size ≡ options_size 0 (records_of (packet_in l)) → judged (OptionsSize size) ≡ judging_in lengths l
+  pub counts : (size : ℕ) → Sound lengths l → size ≡ options_size 0 (records_of (packet_in l)) → judged (Ok size) ≡ judging_in lengths l
   unfolding judging_in unflat judging
   counts size k e = rw (k.flat, k.packet, e)
 
@@ -91,11 +92,11 @@ module _ (lengths : Lengths) (l : List ℕ) where
 
   -- The walk over the records.
   module _ (before size i : ℕ) (w : Judging lengths (records_of (packet_in l)) before size i) (more : i < get_or l 10 0) where
-    pub next_bad : bad_next lengths l before (11 + 4 * i) ≡ true → judged BadRecord ≡ judging_in lengths l
+    pub next_bad : bad_next lengths l before (11 + 4 * i) ≡ true → judged (Err BadRecord) ≡ judging_in lengths l
     unfolding bad_next bad_flat
     next_bad =
         let r = record_at l (11 + 4 * i) in
-        on (λ (t : Bool). t ≡ true → judged BadRecord ≡ judging_in lengths l) (bad_record l (11 + 4 * i))
+        on (λ (t : Bool). t ≡ true → judged (Err BadRecord) ≡ judging_in lengths l) (bad_record l (11 + 4 * i))
         (λ t _. not_flat (either_right (bad_frame l) (bad_numbers l (get_or l 10 0)) (bad_by l (get_or l 10 0) i more t)))
         (λ _ e. bad (bad_records lengths (packet_in l) (finds lengths (records_of (packet_in l)) before size i w r (here l i more) e)))
 
@@ -116,14 +117,14 @@ module _ (lengths : Lengths) (l : List ℕ) where
       unfolding measured_in
       short = rw h
 
-      pub measured_refused : refused 11 ≡ judging_in lengths l → measured_in strict room lengths l ≡ refused 11
+      pub measured_refused : (k : ℕ) → refused k ≡ judging_in lengths l → measured_in strict room lengths l ≡ refused k
       unfolding judging_in unflat judging
-      measured_refused e =
+      measured_refused k e =
           let next = measured strict Unlimited room lengths in
           short
-          ∙ on (λ (a : Answer Packet). refused 11 ≡ onward a (judging lengths) → onward a next ≡ refused 11) (bad_flat l) (λ _ _. refl)
-          (λ _. on (λ (a : Answer ℕ). refused 11 ≡ a → next (packet_in l) ≡ refused 11) (bad_packet lengths (packet_in l))
-          (λ u _. measured_bad strict Unlimited room lengths (packet_in l) h u) (λ _ d. not_refused (sym d))) e
+          ∙ on (λ (a : Answer Packet). refused k ≡ onward a (judging lengths) → onward a next ≡ refused k) (bad_flat l) (λ _ d. sym d)
+          (λ _. on (λ (a : Answer ℕ). refused k ≡ a → next (packet_in l) ≡ refused k) (bad_packet lengths (packet_in l))
+          (λ u d. measured_bad strict Unlimited room lengths (packet_in l) h u ∙ sym d) (λ _ d. not_refused (sym d))) e
 
       pub measured_sound : Sound lengths l → measured_in strict room lengths l ≡ onward (strictly strict (packet_in l)) (λ _. size_fitted room (written_size strict (packet_in l)))
       unfolding unflat limited

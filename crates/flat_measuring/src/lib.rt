@@ -11,55 +11,54 @@ ghost use Rattle.measuring.specs.Measuring.{marker_size, empty_carries, strictly
 ghost use Rattle.unflat.specs.Unflat.{home_of, record_at, packet_in};
 ghost use Rattle.flat_measuring.specs.FlatMeasuring.{measured_in, judging_in, cut_short, bad_start, bad_next, dropped, sent_in};
 
-use judging::{Judged, Lengths, extension_size};
+use judging::{Lengths, extension_size};
 use packet::limits::{MAX_OPTIONS, MAX_TOKEN, MAX_VALUE};
-use refusal::{Outcome, Refusal, Written};
+use refusal::Refusal;
 
 // The answer of writing the packet of a flat form, without a limit, over stores of the given lengths and into an output with this
 // much room.
-pub fn measured(strict: bool, numbers: &[u32], lengths: Lengths, room: usize) -> Written
+pub fn measured(
+    strict: bool,
+    numbers: &[u32],
+    lengths: Lengths,
+    room: usize,
+) -> Result<usize, Refusal>
     ensures { written result ≡ measured_in strict room lengths numbers.now }
 {
     if lengths.too_long() {
-        return Written::Refused(Refusal::TooLong);
+        return Err(Refusal::TooLong);
     }
-    match judge(numbers, lengths) {
-        Judged::BadRecord => Written::Refused(Refusal::BadRecord),
-        Judged::OptionsSize(options) => match judged_strictly(strict, numbers) {
-            Outcome::Refused(e) => Written::Refused(e),
-            Outcome::Done => sized(strict, numbers, options, room),
-        },
-    }
+    let options = judge(numbers, lengths)?;
+    judged_strictly(strict, numbers)?;
+    sized(strict, numbers, options, room)
 }
 
 // One walk over the records judges their numbers and counts what they take. The head is judged behind it: read before, its numbers
 // would be kept for the message's first bytes, in registers that the walk needs.
-fn judge(numbers: &[u32], lengths: Lengths) -> Judged
+fn judge(numbers: &[u32], lengths: Lengths) -> Result<usize, Refusal>
     ensures { judged result ≡ judging_in lengths numbers.now }
 {
     if cut_short(numbers) {
-        return Judged::BadRecord;
+        return Err(Refusal::BadRecord);
     }
     let count = numbers[10] as usize;
     let mut before: u32 = 0;
     let mut size: usize = 0;
-    let mut i = 0;
-    while i < count {
+    for i in 0..count {
         let at = 11 + 4 * i;
         if bad_next(numbers, at, before, lengths) {
-            return Judged::BadRecord;
+            return Err(Refusal::BadRecord);
         }
         size = size + size_after(numbers, at, before);
         before = numbers[at];
-        i = i + 1;
     }
     if unflat::bad_frame(numbers) {
-        return Judged::BadRecord;
+        return Err(Refusal::BadRecord);
     }
     if bad_start(numbers, lengths) {
-        return Judged::BadRecord;
+        return Err(Refusal::BadRecord);
     }
-    Judged::OptionsSize(size)
+    Ok(size)
 }
 
 // Whether numbers are too few for a head, or for the records that it counts, or it counts too many.
@@ -143,23 +142,23 @@ fn size_after(numbers: &[u32], at: usize, before: u32) -> usize
 }
 
 // What strict mode asks besides: version 1, a token of at most 8 bytes, and nothing but a header in an empty message.
-fn judged_strictly(strict: bool, numbers: &[u32]) -> Outcome
+fn judged_strictly(strict: bool, numbers: &[u32]) -> Result<(), Refusal>
     requires { 11 ≤ length numbers.now }
     ensures { outcome result ≡ strictly strict (packet_in numbers.now) }
 {
     if !strict {
-        return Outcome::Done;
+        return Ok(());
     }
     if numbers[0] != 1 {
-        return Outcome::Refused(Refusal::WrongVersion);
+        return Err(Refusal::WrongVersion);
     }
     if 8 < numbers[6] {
-        return Outcome::Refused(Refusal::InvalidTokenLength);
+        return Err(Refusal::InvalidTokenLength);
     }
     if empty_carries(numbers) {
-        return Outcome::Refused(Refusal::EmptyCarries);
+        return Err(Refusal::EmptyCarries);
     }
-    Outcome::Done
+    Ok(())
 }
 
 // An empty message is nothing but its header.
@@ -177,15 +176,15 @@ fn empty_carries(numbers: &[u32]) -> bool
 }
 
 // The refusal of the room, or how many bytes are to be written.
-fn sized(strict: bool, numbers: &[u32], options: usize, room: usize) -> Written
+fn sized(strict: bool, numbers: &[u32], options: usize, room: usize) -> Result<usize, Refusal>
     requires { (11 ≤ length numbers.now) × (options ≡ options_size 0 (records_of (packet_in numbers.now))) × (options ≤ max_options * (max_value + 5)) }
     ensures { written result ≡ size_fitted room (written_size strict (packet_in numbers.now)) }
 {
     let length = 4 + numbers[6] as usize + options + payload_size(strict, numbers);
     if room < length {
-        return Written::Refused(Refusal::NoRoom);
+        return Err(Refusal::NoRoom);
     }
-    Written::Length(length)
+    Ok(length)
 }
 
 // How many bytes the payload takes that is sent, with its marker.

@@ -5,8 +5,8 @@ use mathlib.Core.Bool.{false}
 use mathlib.Core.List.{List}
 use native.Mathlib.Omega.{arith}
 use lib.ListN.{length, get_or}
+use Rattle.std.specs.Prelude.{Ok}
 use Rattle.refusal.specs.Answer.{fitted, after}
-use Rattle.refusal.specs.declared.Written.TheVariants.{Length}
 use Rattle.class.proofs.Class.{byte_back}
 use Rattle.header.specs.Header.{number_of_type, type_of, raw_bytes, raw_of}
 use Rattle.header.specs.declared.HeaderRaw.{HeaderRaw}
@@ -28,7 +28,7 @@ module _ (l token old mid new : List ℕ) (r : ℕ) (pre : (11 ≤ length l) × 
       let first : get_or l 0 0 * 64 + get_or l 1 0 * 16 + get_or l 6 0 ≡ get_or l 0 0 % 4 * 64 + number_of_type (type_of (get_or l 1 0)) * 16 + length token % 16 = omega (arith, number_back (get_or l 1 0), (small l pre.1).type, pre.2, pre.3, pre.4) in
       λ i. record { ver_type_tkl = first i; code = sym (byte_back (get_or l 2 0)) i; message_id = get_or l 3 0 }
 
-  pub head_laid : mid ≡ after (fitted (length old) (raw_bytes (raw_header_at l))) 0 (raw_bytes (raw_header_at l)) old → Puts mid 4 token r new → LaysHeader (header_in l) token old (Length r) new
+  pub head_laid : mid ≡ after (fitted (length old) (raw_bytes (raw_header_at l))) 0 (raw_bytes (raw_header_at l)) old → Puts mid 4 token r new → LaysHeader (header_in l) token old (Ok r) new
   unfolding header_in
   head_laid e p =
       head_put (header_in l) token old mid new r pre.2 (omega (arith, pre.3, pre.4)) pre.5

@@ -7,10 +7,10 @@ use native.Mathlib.Nat.{zero-add}
 use native.Mathlib.Omega.{arith}
 use lib.ListN.{length, get_or}
 use lib.Seq.{sets, length-sets}
+use Rattle.std.specs.Prelude.{Result, Ok}
 use Rattle.rfc.specs.Message.{options_layout, payload_layout}
 use Rattle.refusal.specs.Answer.{given, written}
-use Rattle.refusal.specs.declared.Written.{Written}
-use Rattle.refusal.specs.declared.Written.TheVariants.{Length}
+use Rattle.refusal.specs.declared.Refusal.{Refusal}
 use Rattle.placing.specs.Put.{Put}
 use Rattle.packet.specs.Packet.{Stores, bytes_of}
 use Rattle.packet.specs.Meaning.{meaning}
@@ -40,16 +40,16 @@ module _ (strict : Bool) (s : Stores) (l old : List ℕ) (k : Sound (lengths_of 
         let p = places (lengths_of s) l k in
         (p.head, p.fields, p.version, ap length t ∙ range_exactly s (range_at l 4) p.token, p.token_length, omega (arith, room, token_room, ap length t))
 
-    module _ (first : ℕ) (mid : List ℕ) (h : LaysHeader (header_in l) token old (Length first) mid) where
-      head : LaysHeader (packet_in l).header (meaning s (sent strict (packet_in l))).token old (Length first) mid
+    module _ (first : ℕ) (mid : List ℕ) (h : LaysHeader (header_in l) token old (Ok first) mid) where
+      head : LaysHeader (packet_in l).header (meaning s (sent strict (packet_in l))).token old (Ok first) mid
       unfolding packet_in
-      head = subst (λ (x : List ℕ). LaysHeader (header_in l) x old (Length first) mid) t h
+      head = subst (λ (x : List ℕ). LaysHeader (header_in l) x old (Ok first) mid) t h
 
       -- The options end within the message, and there is room for all of it.
       pub options_fit : (first + length (options_layout 0 (meaning s (packet_in l)).options) ≤ length (bytes_written strict s (packet_in l))) × (length (bytes_written strict s (packet_in l)) ≤ length mid)
       options_fit =
-          let kept = head_kept strict s (packet_in l) old k.packet room (Length first) first mid head refl in
-          (options_within strict s (packet_in l) old k.packet room (Length first) first mid head refl, omega (arith, room, kept))
+          let kept = head_kept strict s (packet_in l) old k.packet room (Ok first) first mid head refl in
+          (options_within strict s (packet_in l) old k.packet room (Ok first) first mid head refl, omega (arith, room, kept))
 
       module _ (out : List ℕ) (next : ℕ) (o : Loosely mid first (options_layout 0 (meaning s (packet_in l)).options) (length (bytes_written strict s (packet_in l))) next out) (payload : List ℕ) (y : payload ≡ bytes_of s (sent_in strict l)) where
         payload_is : payload ≡ (meaning s (sent strict (packet_in l))).payload
@@ -68,7 +68,7 @@ module _ (strict : Bool) (s : Stores) (l old : List ℕ) (k : Sound (lengths_of 
         exact_fits : laid (length exact) next (payload_layout payload) ≡ given (length (payload_layout payload))
         exact_fits =
             subst (λ (x : List ℕ). laid (length exact) next (payload_layout x) ≡ given (length (payload_layout x))) (sym payload_is)
-            (last_given strict s (packet_in l) old k.packet room (Length first) first mid head refl exact next options_put)
+            (last_given strict s (packet_in l) old k.packet room (Ok first) first mid head refl exact next options_put)
 
         -- The payload is laid, and then all is put: nothing is loose any more.
         pub payload_fits : laid (length out) next (payload_layout payload) ≡ given (length (payload_layout payload))
@@ -78,10 +78,10 @@ module _ (strict : Bool) (s : Stores) (l old : List ℕ) (k : Sound (lengths_of 
         exactly =
             let bytes = payload_layout payload in
             let laid-there = lays_given _ next bytes exact (length bytes) (sets exact next bytes) exact_fits refl in
-            whole strict s (packet_in l) old k.packet room (Length first) first mid head refl exact next options_put (Length (length bytes)) (length bytes) (sets exact next bytes)
-            (subst (λ (x : List ℕ). LaysPayload x next exact (Length (length bytes)) (sets exact next bytes)) payload_is laid-there) refl
+            whole strict s (packet_in l) old k.packet room (Ok first) first mid head refl exact next options_put (Ok (length bytes)) (length bytes) (sets exact next bytes)
+            (subst (λ (x : List ℕ). LaysPayload x next exact (Ok (length bytes)) (sets exact next bytes)) payload_is laid-there) refl
 
-        pub message_put : (final : Written) (n : ℕ) (new : List ℕ) → LaysPayload payload next out final new → written final ≡ given n → Put old 0 (bytes_written strict s (packet_in l)) (next + n) new
+        pub message_put : (final : Result ℕ Refusal) (n : ℕ) (new : List ℕ) → LaysPayload payload next out final new → written final ≡ given n → Put old 0 (bytes_written strict s (packet_in l)) (next + n) new
         message_put final n new m v =
             let bytes = payload_layout payload in
             let end = length (bytes_written strict s (packet_in l)) in

@@ -7,9 +7,9 @@ use native.Mathlib.Omega.{arith}
 use lib.ListN.{length, drop, length-append}
 use lib.Seq.{sets}
 use borrow.Author.Tests.{le-leb}
+use Rattle.std.specs.Prelude.{Ok}
 use Rattle.ground.specs.Part.{part}
 use Rattle.rfc.specs.Message.{option_layout}
-use Rattle.refusal.specs.declared.Written.TheVariants.{Length}
 use Rattle.packet.specs.Packet.{Stores, store_of, bytes_in, value_of}
 use Rattle.packet.specs.Meaning.{option_of}
 use Rattle.packet.specs.declared.OptionRecord.{OptionRecord}
@@ -57,7 +57,7 @@ module _ (s : Stores) (rs : List OptionRecord) (old : List ℕ) (from end : ℕ)
           let same : length out ≡ length g.exact = g.kept ∙ sym g.putting.kept in
           record {
             exact = sets g.exact next bytes;
-            putting = rw l.next (Exactly.turn s rs old from g.exact before next i g.putting r d (Length (length bytes)) (length bytes) _ (lays_given _ next bytes g.exact (length bytes) _ given refl) refl);
+            putting = rw l.next (Exactly.turn s rs old from g.exact before next i g.putting r d (Ok (length bytes)) (length bytes) _ (lays_given _ next bytes g.exact (length bytes) _ given refl) refl);
             like = like_like q end new (sets out next bytes) _ l.like (rw l.next (like_put out g.exact next bytes end g.like room (omega (arith, g.kept)) same));
             kept = l.kept ∙ g.kept;
           }

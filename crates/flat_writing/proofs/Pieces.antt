@@ -9,6 +9,7 @@ use lib.ListN.{length, take, drop, get_or, set, length-append, length-set, lengt
 use lib.Seq.{length-take-le, take-take}
 use lib.Dec.{leb}
 use borrow.Author.Tests.{leb-true}
+use Rattle.std.specs.Prelude.{Result}
 use Rattle.ground.specs.Choice.{both}
 use Rattle.ground.specs.Part.{part}
 use Rattle.ground.proofs.Choice.{by_lt, both_true}
@@ -16,7 +17,7 @@ use Rattle.rfc.specs.Message.{Opt, nibble_of, extension_of, option_layout}
 use Rattle.rfc.proofs.Message.{nibble_none, extension_none, extension_one}
 use Rattle.judging.proofs.Good.{extension_small}
 use Rattle.refusal.specs.Answer.{given, written}
-use Rattle.refusal.specs.declared.Written.{Written}
+use Rattle.refusal.specs.declared.Refusal.{Refusal}
 use Rattle.laying.specs.Laying.{size_of, laid_option, LaysOption}
 use Rattle.laying.proofs.Pieces.{extension_length, option_length}
 use Rattle.laying.proofs.Laid.{option_laid, lays_put}
@@ -112,7 +113,7 @@ module _ (delta len start at end : ℕ) (store out : List ℕ) (short : len ≤ 
   pub option_given : laid_option 0 option (length out) at ≡ given (length (option_layout 0 option))
   option_given = option_laid 0 option (length out) at (omega arith) (omega (arith, size)) (omega (arith, option_size))
 
-  pub option_exactly : (piece : Written) (n : ℕ) (new : List ℕ) → LaysOption 0 option at out piece new → written piece ≡ given n → Loosely out at (option_layout 0 option) end (at + n) new
+  pub option_exactly : (piece : Result ℕ Refusal) (n : ℕ) (new : List ℕ) → LaysOption 0 option at out piece new → written piece ≡ given n → Loosely out at (option_layout 0 option) end (at + n) new
   option_exactly piece n new l e =
       let p = lays_put _ at _ out piece n new option_given l e in
       loosely_put out at end room (option_layout 0 option) new (at + n) p (omega (arith, p.next, option_size))

@@ -2,14 +2,13 @@
 // made of them.
 #![tactic(auto)]
 
-ghost use Rattle.std.specs.Prelude.{◌≡◌, Bool, ℕ, ◌+◌, ◌≤◌, length, get_or, take, leb};
+ghost use Rattle.std.specs.Prelude.{◌≡◌, Bool, ℕ, ◌+◌, ◌≤◌, length, get_or, take, leb, Ok};
 ghost use Rattle.ground.specs.Choice.{both};
 ghost use Rattle.ground.specs.Part.{part};
 ghost use Rattle.rfc.specs.Message.{extension_of, option_layout, options_layout};
 ghost use Rattle.refusal.specs.Answer.{given, written, after};
-ghost use Rattle.refusal.specs.declared.Written.{Written};
 ghost use Rattle.placing.specs.Put.{Put};
-ghost use Rattle.packet.specs.Packet.{stores, store_of, bytes_of};
+ghost use Rattle.packet.specs.Packet.{held, store_of, bytes_of};
 ghost use Rattle.packet.specs.Meaning.{meaning};
 ghost use Rattle.judging.specs.Judge.{lengths_of, length_in};
 ghost use Rattle.laying.specs.Laying.{LaysHeader, size_of};
@@ -23,28 +22,24 @@ use flat_measuring::{drops, measured};
 use header::HeaderRaw;
 use judging::{Lengths, extension_size};
 use laying::{is_short, nibble, put_option, put_payload};
+use packet::Stores;
 use placing::{RUN, put_bytes, put_run};
-use refusal::Written;
+use refusal::Refusal;
 
 // Writes the packet of a flat form, which may stand at the start of a longer slice, over its two stores and without a limit.
 // All is measured before a byte is put, so that a refusal changes nothing.
 pub fn write<'a>(
     strict: bool,
     numbers: &[u32],
-    datagram: &'a [u8],
-    edits: &'a [u8],
+    stores: Stores<'a>,
     out: &mut [u8],
-) -> Written
-    ensures result_value { written result ≡ copying strict (length out.old) (stores datagram.now edits.now) (packet_over (stores datagram.now edits.now) numbers.now) }
-    ensures out_after { out.new ≡ after (copying strict (length out.old) (stores datagram.now edits.now) (packet_over (stores datagram.now edits.now) numbers.now)) 0 (bytes_written strict (stores datagram.now edits.now) (packet_of (packet_over (stores datagram.now edits.now) numbers.now))) out.old }
+) -> Result<usize, Refusal>
+    ensures result_value { written result ≡ copying strict (length out.old) (held stores.entry) (packet_over (held stores.entry) numbers.now) }
+    ensures out_after { out.new ≡ after (copying strict (length out.old) (held stores.entry) (packet_over (held stores.entry) numbers.now)) 0 (bytes_written strict (held stores.entry) (packet_of (packet_over (held stores.entry) numbers.now))) out.old }
 {
-    let lengths = Lengths::of(datagram, edits);
-    match measured(strict, numbers, lengths, out.len()) {
-        Written::Refused(e) => Written::Refused(e),
-        Written::Length(end) => Written::Length(put_message(
-            out, end, strict, numbers, datagram, edits,
-        )),
-    }
+    let lengths = Lengths::of(stores);
+    let end = measured(strict, numbers, lengths, out.len())?;
+    Ok(put_message(out, end, strict, numbers, stores))
 }
 
 // Puts the message at the start of the output: header and token, options, payload.
@@ -53,30 +48,29 @@ fn put_message<'a>(
     end: usize,
     strict: bool,
     numbers: &[u32],
-    datagram: &'a [u8],
-    edits: &'a [u8],
+    stores: Stores<'a>,
 ) -> usize
-    requires { Sound (lengths_of (stores datagram.now edits.now)) numbers.now × (length (bytes_written strict (stores datagram.now edits.now) (packet_in numbers.now)) ≤ length out.old) × (end ≡ length (bytes_written strict (stores datagram.now edits.now) (packet_in numbers.now))) }
-    ensures { Put out.old 0 (bytes_written strict (stores datagram.now edits.now) (packet_in numbers.now)) result out.new }
+    requires { Sound (lengths_of (held stores)) numbers.now × (length (bytes_written strict (held stores) (packet_in numbers.now)) ≤ length out.old) × (end ≡ length (bytes_written strict (held stores) (packet_in numbers.now))) }
+    ensures { Put out.old 0 (bytes_written strict (held stores.entry) (packet_in numbers.now)) result out.new }
 {
-    let token = part(numbers[4], numbers[5], numbers[6], datagram, edits);
+    let token = part(numbers[4], numbers[5], numbers[6], stores);
     let first = put_head(out, numbers, token);
-    let next = put_options(out, first, end, numbers, datagram, edits);
-    let payload = sent_payload(strict, numbers, datagram, edits);
-    next + taken(put_payload(out, next, payload))
+    let next = put_options(out, first, end, numbers, stores);
+    let payload = sent_payload(strict, numbers, stores);
+    next + put_payload(out, next, payload).unwrap()
 }
 
 // Puts header and token at the start of the output.
 fn put_head(out: &mut [u8], numbers: &[u32], token: &[u8]) -> usize
     requires { (11 ≤ length numbers.now) × (bad_head numbers.now ≡ Bool.false) × (get_or numbers.now 0 0 ≤ 3) × (length token.now ≡ get_or numbers.now 6 0) × (get_or numbers.now 6 0 ≤ 15) × (4 + length token.now ≤ length out.old) }
-    ensures { LaysHeader (header_in numbers.now) token.now out.old (Written.Length result) out.new }
+    ensures { LaysHeader (header_in numbers.now) token.now out.old (Ok result) out.new }
 {
     let raw = HeaderRaw {
         ver_type_tkl: (numbers[0] * 64 + numbers[1] * 16 + numbers[6]) as u8,
         code: numbers[2] as u8,
         message_id: numbers[3] as u16,
     };
-    raw.serialize_into(out);
+    raw.serialize_into(out).unwrap();
     put_bytes(out, 4, token)
 }
 
@@ -86,25 +80,22 @@ fn put_options<'a>(
     from: usize,
     end: usize,
     numbers: &[u32],
-    datagram: &'a [u8],
-    edits: &'a [u8],
+    stores: Stores<'a>,
 ) -> usize
-    requires { Sound (lengths_of (stores datagram.now edits.now)) numbers.now × (from + length (options_layout 0 (meaning (stores datagram.now edits.now) (packet_in numbers.now)).options) ≤ end) × (end ≤ length out.old) }
-    ensures { Loosely out.old from (options_layout 0 (meaning (stores datagram.now edits.now) (packet_in numbers.now)).options) end result out.new }
+    requires { Sound (lengths_of (held stores)) numbers.now × (from + length (options_layout 0 (meaning (held stores) (packet_in numbers.now)).options) ≤ end) × (end ≤ length out.old) }
+    ensures { Loosely out.old from (options_layout 0 (meaning (held stores.entry) (packet_in numbers.now)).options) end result out.new }
 {
     let count = numbers[10] as usize;
     let mut next = from;
     let mut before: u32 = 0;
-    let mut i = 0;
-    while i < count {
+    for i in 0..count {
         let at = 11 + 4 * i;
         let delta = (numbers[at] - before) as usize;
-        let store = store_of(numbers[at + 1], datagram, edits);
+        let store = store_of(numbers[at + 1], stores);
         let start = numbers[at + 2] as usize;
         let len = numbers[at + 3] as usize;
         next = put_option_in(out, next, end, delta, store, start, len);
         before = numbers[at];
-        i = i + 1;
     }
     next
 }
@@ -125,7 +116,7 @@ fn put_option_in(
     if is_loose(len, store.len() - start, end - at) {
         return put_loosely(out, at, delta, &store[start..], len);
     }
-    at + taken(put_option(out, at, 0, delta as u16, &store[start..start + len]))
+    at + put_option(out, at, 0, delta as u16, &store[start..start + len]).unwrap()
 }
 
 // Whether a value is short enough to be put as a run of 32 bytes, of which there are that many, with room for them behind five
@@ -202,44 +193,33 @@ fn second_byte(n: usize) -> u8
 }
 
 // The store that a home's number names.
-fn store_of<'a>(home: u32, datagram: &'a [u8], edits: &'a [u8]) -> &'a [u8]
-    ensures { result.now ≡ store_of (stores datagram.now edits.now) (home_of home) }
+fn store_of<'a>(home: u32, stores: Stores<'a>) -> &'a [u8]
+    ensures { result.now ≡ store_of (held stores.entry) (home_of home) }
 {
     if home == 0 {
-        return datagram;
+        return stores.datagram;
     }
-    edits
+    stores.edits
 }
 
 // The bytes that a range names in the store of its home.
-fn part<'a>(home: u32, start: u32, len: u32, datagram: &'a [u8], edits: &'a [u8]) -> &'a [u8]
-    requires { start + len ≤ length_in (lengths_of (stores datagram.now edits.now)) (home_of home) }
-    ensures { result.now ≡ bytes_of (stores datagram.now edits.now) (record { home = home_of home; start = start; len = len }) }
+fn part<'a>(home: u32, start: u32, len: u32, stores: Stores<'a>) -> &'a [u8]
+    requires { start + len ≤ length_in (lengths_of (held stores)) (home_of home) }
+    ensures { result.now ≡ bytes_of (held stores.entry) (record { home = home_of home; start = start; len = len }) }
 {
     let first = start as usize;
     let end = first + len as usize;
-    let store = store_of(home, datagram, edits);
+    let store = store_of(home, stores);
     &store[first..end]
 }
 
 // The bytes of the payload that is sent.
-fn sent_payload<'a>(strict: bool, numbers: &[u32], datagram: &'a [u8], edits: &'a [u8]) -> &'a [u8]
-    requires { Sound (lengths_of (stores datagram.now edits.now)) numbers.now }
-    ensures { result.now ≡ bytes_of (stores datagram.now edits.now) (sent_in strict numbers.now) }
+fn sent_payload<'a>(strict: bool, numbers: &[u32], stores: Stores<'a>) -> &'a [u8]
+    requires { Sound (lengths_of (held stores)) numbers.now }
+    ensures { result.now ≡ bytes_of (held stores.entry) (sent_in strict numbers.now) }
 {
     if drops(strict, numbers[2]) {
-        return &datagram[0..0];
+        return b"";
     }
-    part(numbers[7], numbers[8], numbers[9], datagram, edits)
-}
-
-// How many bytes a piece took. No piece is refused where this is called: the packet is good, and there is room for it.
-fn taken(piece: Written) -> usize
-    requires { (n : ℕ) × (written piece ≡ given n) }
-    ensures { written piece ≡ given result }
-{
-    match piece {
-        Written::Length(n) => n,
-        Written::Refused(_) => 0,
-    }
+    part(numbers[7], numbers[8], numbers[9], stores)
 }

@@ -8,6 +8,7 @@ use lib.ListN.{length, take, drop, get_or, length-drop, length-append}
 use lib.Seq.{take_all, drop-drop}
 use native.Mathlib.Nat.{sub-zero}
 use borrow.Author.Tests.{lt-ltb}
+use Rattle.std.specs.Prelude.{Result, Ok, Err}
 use Rattle.ground.specs.Part.{Bytes}
 use Rattle.ground.proofs.Choice.{by_lt}
 use Rattle.rfc.specs.Message.{Message, WellFormed, layout, header_layout}
@@ -15,9 +16,6 @@ use Rattle.rfc.specs.Frame.{body, frame_head, frame}
 use Rattle.refusal.specs.Answer.{Answer, given, refused, onward, outcome}
 use Rattle.refusal.specs.Number.{number_of}
 use Rattle.refusal.specs.declared.Refusal.{Refusal}
-use Rattle.refusal.specs.declared.Outcome.{Outcome}
-use Rattle.refusal.specs.declared.Outcome.TheVariants.{Done, Refused as Not}
-use Rattle.refusal.specs.declared.Written.TheVariants.{Refused}
 use Rattle.refusal.proofs.Answers.{not_refused, on_given}
 use Rattle.header.specs.Header.{raw_bytes, version_of, token_of}
 use Rattle.header.specs.declared.MessageType.{MessageType}
@@ -37,7 +35,7 @@ use Rattle.framing.specs.declared.HeadBytes.{HeadBytes}
 use Rattle.framing.proofs.Judged.{strictly_judged, strictly_long}
 
 -- A refused conversion.
-pub not_converted : (a : Answer (List ℕ)) (old : List ℕ) (e : Refusal) → a ≡ refused (number_of e) → Converts a old (Refused e) old
+pub not_converted : (a : Answer (List ℕ)) (old : List ℕ) (e : Refusal) → a ≡ refused (number_of e) → Converts a old (Err e) old
 not_converted a old e is = record { answer = rw is; output = rw is }
 
 -- Where the strict reader refuses, there is no frame.
@@ -115,17 +113,17 @@ module _ (kind : MessageType) (id : ℕ) (f : List ℕ) (h : Head) (w : Within f
       strictly_judged (header_for kind id h) (drop h.token_at f) version fits inside ∙ rw (token, rest)
 
   -- What the judgement refuses, and what it lets pass.
-  module _ (l : length f - h.token_at ≤ 70000 - 4) (o : Outcome) (j : outcome o ≡ judged h.code h.token_length (take (length f - (h.token_at + h.token_length)) (drop (h.token_at + h.token_length) f))) where
+  module _ (l : length f - h.token_at ≤ 70000 - 4) (o : Result (Unit {0}) Refusal) (j : outcome o ≡ judged h.code h.token_length (take (length f - (h.token_at + h.token_length)) (drop (h.token_at + h.token_length) f))) where
     told : judged h.code h.token_length (drop (h.token_at + h.token_length) f) ≡ outcome o
     told = rw (← all_left f (h.token_at + h.token_length)) (sym j)
 
-    pub back_refused : (old : List ℕ) (e : Refusal) → o ≡ Not e → Converts (strictly (datagram_of kind id f h)) old (Refused e) old
+    pub back_refused : (old : List ℕ) (e : Refusal) → o ≡ Err e → Converts (strictly (datagram_of kind id f h)) old (Err e) old
     back_refused old e is =
         not_converted (strictly (datagram_of kind id f h)) old e
         (judged_so l ∙ ap (λ (a : Answer (Unit {0})). onward a (λ _. given (datagram_of kind id f h))) (told ∙ ap outcome is))
 
-    pub back_given : o ≡ Done → strictly (datagram_of kind id f h) ≡ given (raw_bytes (header_for kind id h) ++ take (length f - h.token_at) (drop h.token_at f))
-    back_given is =
+    pub back_given : (u : Unit {0}) → o ≡ Ok u → strictly (datagram_of kind id f h) ≡ given (raw_bytes (header_for kind id h) ++ take (length f - h.token_at) (drop h.token_at f))
+    back_given u is =
         judged_so l
         ∙ (ap (λ (a : Answer (Unit {0})). onward a (λ _. given (datagram_of kind id f h))) (told ∙ ap outcome is)
         ∙ ap (λ (r : List ℕ). given (raw_bytes (header_for kind id h) ++ r)) (sym (all_left f h.token_at)))

@@ -1,8 +1,8 @@
 -- From a datagram to the frame of its message, and back: the order of refusals, and the bytes that are written.
-use Rattle.std.specs.Prelude.{ℕ, ◌+◌, ◌-◌, ◌*◌, ◌%◌, ◌≤◌, ◌≡◌, true, List, [], ◌++◌, length, drop, get_or}
+use Rattle.std.specs.Prelude.{ℕ, ◌+◌, ◌-◌, ◌*◌, ◌%◌, ◌≤◌, ◌≡◌, true, List, [], ◌++◌, length, drop, get_or, Result}
 use Rattle.rfc.specs.Frame.{frame_head, frame}
 use Rattle.refusal.specs.Answer.{Answer, given, refused, onward, written, fitted, after}
-use Rattle.refusal.specs.declared.Written.{Written}
+use Rattle.refusal.specs.declared.Refusal.{Refusal}
 use Rattle.header.specs.Header.{number_of_type, raw_bytes}
 use Rattle.header.specs.declared.HeaderRaw.{HeaderRaw}
 use Rattle.header.specs.declared.MessageType.{MessageType}
@@ -50,14 +50,14 @@ bytes_of (given bytes) = bytes
 bytes_of (refused k) = []
 
 -- What a conversion promises: a refusal, then NoRoom (12); else its bytes at the front of the output and their length as the answer.
-pub record Converts (a : Answer (List ℕ)) (old : List ℕ) (r : Written) (new : List ℕ) : Type 0 where
+pub record Converts (a : Answer (List ℕ)) (old : List ℕ) (r : Result ℕ Refusal) (new : List ℕ) : Type 0 where
   pub answer : written r ≡ onward a (fitted (length old))
   pub output : new ≡ after (onward a (fitted (length old))) 0 (bytes_of a) old
 
 -- Out, to a frame.
-abbrev pub ToFrame : List ℕ → List ℕ → Written → List ℕ → Type 0
+abbrev pub ToFrame : List ℕ → List ℕ → Result ℕ Refusal → List ℕ → Type 0
 ToFrame s old r new = Converts (framed s) old r new
 
 -- Back from a frame, with a type and an id.
-abbrev pub FromFrame : MessageType → ℕ → List ℕ → List ℕ → Written → List ℕ → Type 0
+abbrev pub FromFrame : MessageType → ℕ → List ℕ → List ℕ → Result ℕ Refusal → List ℕ → Type 0
 FromFrame kind id f old r new = Converts (unframed kind id f) old r new

@@ -1,12 +1,11 @@
 -- What stands before the token of a frame, as it is read: RFC 8323, section 3.2.
-use Rattle.std.specs.Prelude.{ℕ, ◌+◌, ◌*◌, ◌/◌, ◌%◌, ◌<◌, ◌≤◌, ◌≡◌, List, length, take, get_or, ltb, eqb}
+use Rattle.std.specs.Prelude.{ℕ, ◌+◌, ◌*◌, ◌/◌, ◌%◌, ◌<◌, ◌≤◌, ◌≡◌, List, length, take, get_or, ltb, eqb, Result, Ok, Err}
 use Rattle.ground.specs.Choice.{pick}
 use Rattle.refusal.specs.Answer.{Answer, given, refused}
 use Rattle.refusal.specs.Number.{number_of}
+use Rattle.refusal.specs.declared.Refusal.{Refusal}
 use Rattle.framing.specs.declared.Head.{Head}
 use Rattle.framing.specs.declared.HeadBytes.{HeadBytes}
-use Rattle.framing.specs.declared.HeadRead.{HeadRead}
-use Rattle.framing.specs.declared.HeadRead.TheVariants.{Head as Is, Refused as Not}
 
 -- How many extension bytes the nibble of a length calls for: none up to 12, one for 13, two for 14, four for 15.
 unfoldable pub extra : ℕ → ℕ
@@ -33,9 +32,9 @@ abbrev pub head_in : List ℕ → Answer Head
 head_in f = head_of f (get_or f 0 0 / 16) (get_or f 0 0 % 16)
 
 -- The answer of reading a head.
-abbrev pub head_read : HeadRead → Answer Head
-head_read (Is h) = given h
-head_read (Not e) = refused (number_of e)
+abbrev pub head_read : Result Head Refusal → Answer Head
+head_read (Ok h) = given h
+head_read (Err e) = refused (number_of e)
 
 -- The token of a head lies within the frame, and its length is that of a nibble.
 pub record Within (f : List ℕ) (h : Head) : Type 0 where
@@ -47,8 +46,3 @@ pub record Begins (bytes : List ℕ) (h : HeadBytes) : Type 0 where
   pub is : take h.len h.bytes ≡ bytes
   pub short : h.len ≤ 6
   pub array : length h.bytes ≡ 6
-
--- A byte that was read: the element, and that it is small.
-pub record ByteAt (s : List ℕ) (i r : ℕ) : Type 0 where
-  pub is : r ≡ get_or s i 0
-  pub small : r < 256

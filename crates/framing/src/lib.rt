@@ -7,28 +7,27 @@ ghost use Rattle.ground.specs.Choice.{both};
 ghost use Rattle.rfc.specs.Frame.{frame_head};
 ghost use Rattle.refusal.specs.Answer.{given, outcome};
 ghost use Rattle.packet.specs.Limits.{max_options, max_store};
-ghost use Rattle.framing.specs.Head.{ByteAt, Begins, extra, length_in, head_in, head_read, Within};
+ghost use Rattle.framing.specs.Head.{Begins, extra, length_in, head_in, head_read, Within};
 ghost use Rattle.framing.specs.Judging.{judged, options_judged};
 ghost use Rattle.framing.specs.Framing.{Converts, Whole, frame_of, strictly, datagram_of, ToFrame, FromFrame};
 
 use header::MessageType;
-use option_reading::{Found, place_at};
+use option_reading::{Found, byte_at, place_at};
 use packet::limits::{MAX_OPTIONS, MAX_STORE, MAX_VALUE};
 use placing::put_bytes;
-use refusal::{Outcome, Refusal, Written};
+use reading::marker_alone;
+use refusal::Refusal;
 
 // Writes the frame of the message that a datagram holds.
-pub fn to_frame(datagram: &[u8], out: &mut [u8]) -> Written
+pub fn to_frame(datagram: &[u8], out: &mut [u8]) -> Result<usize, Refusal>
     ensures { ToFrame datagram.now out.old result out.new }
 {
-    match cursor::judge(true, datagram) {
-        Outcome::Refused(e) => Written::Refused(e),
-        Outcome::Done => put_frame(datagram, out),
-    }
+    cursor::judge(true, datagram)?;
+    put_frame(datagram, out)
 }
 
 // Writes the frame of a datagram that was accepted.
-fn put_frame(datagram: &[u8], out: &mut [u8]) -> Written
+fn put_frame(datagram: &[u8], out: &mut [u8]) -> Result<usize, Refusal>
     requires { Whole datagram.now }
     ensures { Converts (given (frame_of datagram.now)) out.old result out.new }
 {
@@ -99,13 +98,16 @@ fn head_of(length: usize, token_length: usize, code: u8) -> HeadBytes
 }
 
 // Writes the datagram of the message that a frame holds, with a type and an id.
-pub fn from_frame(frame: &[u8], kind: MessageType, id: u16, out: &mut [u8]) -> Written
+pub fn from_frame(
+    frame: &[u8],
+    kind: MessageType,
+    id: u16,
+    out: &mut [u8],
+) -> Result<usize, Refusal>
     ensures { FromFrame kind id frame.now out.old result out.new }
 {
-    match head_in(frame) {
-        HeadRead::Refused(e) => Written::Refused(e),
-        HeadRead::Head(head) => put_datagram(head, frame, kind, id, out),
-    }
+    let head = head_in(frame)?;
+    put_datagram(head, frame, kind, id, out)
 }
 
 // What stands before the token in a frame: the token's length and the code, and where the token starts.
@@ -116,29 +118,23 @@ struct Head {
     token_at: usize,
 }
 
-#[derive(Clone, Copy)]
-enum HeadRead {
-    Head(Head),
-    Refused(Refusal),
-}
-
 // The head of a frame that has just the bytes which its two nibbles call for.
-fn head_in(frame: &[u8]) -> HeadRead
+fn head_in(frame: &[u8]) -> Result<Head, Refusal>
     ensures { head_read result ≡ head_in frame.now }
 {
     if frame.len() < 2 {
-        return HeadRead::Refused(Refusal::BadFrame);
+        return Err(Refusal::BadFrame);
     }
     let first = byte_at(frame, 0);
     let extra = extra_bytes(first / 16);
     if frame.len() < 2 + extra {
-        return HeadRead::Refused(Refusal::BadFrame);
+        return Err(Refusal::BadFrame);
     }
     let length = length_in(frame, first / 16);
     if frame.len() != 2 + extra + first % 16 + length {
-        return HeadRead::Refused(Refusal::BadFrame);
+        return Err(Refusal::BadFrame);
     }
-    HeadRead::Head(Head {
+    Ok(Head {
         token_length: (first % 16) as u8,
         code: frame[1 + extra],
         token_at: 2 + extra,
@@ -179,48 +175,43 @@ fn length_in(frame: &[u8], nibble: usize) -> usize
     65805 + ((two * 256 + byte_at(frame, 3)) * 256 + byte_at(frame, 4))
 }
 
-fn byte_at(buf: &[u8], idx: usize) -> usize
-    requires { idx < length buf.now }
-    ensures { ByteAt buf.now idx result }
-{
-    buf[idx] as usize
-}
-
 // Judges the message of a frame whose head was read, and writes it after its header.
-fn put_datagram(head: Head, frame: &[u8], kind: MessageType, id: u16, out: &mut [u8]) -> Written
+fn put_datagram(
+    head: Head,
+    frame: &[u8],
+    kind: MessageType,
+    id: u16,
+    out: &mut [u8],
+) -> Result<usize, Refusal>
     requires { Within frame.now head }
     ensures { Converts (strictly (datagram_of kind id frame.now head)) out.old result out.new }
 {
     let at = head.token_at;
     let options = at + head.token_length as usize;
     if MAX_STORE - 4 < frame.len() - at {
-        return Written::Refused(Refusal::TooLong);
+        return Err(Refusal::TooLong);
     }
-    match judge(head.code, head.token_length, &frame[options..]) {
-        Outcome::Refused(e) => Written::Refused(e),
-        Outcome::Done => {
-            let header = [
-                64 + kind.to_number() * 16 + head.token_length,
-                head.code,
-                (id / 256) as u8,
-                (id % 256) as u8,
-            ];
-            put_both(out, &header, &frame[at..])
-        }
-    }
+    judge(head.code, head.token_length, &frame[options..])?;
+    let header = [
+        64 + kind.to_number() * 16 + head.token_length,
+        head.code,
+        (id / 256) as u8,
+        (id % 256) as u8,
+    ];
+    put_both(out, &header, &frame[at..])
 }
 
 // What strict reading refuses in a message by its code, its token's length and what follows the token. It is judged where it
 // stands, so that a refused message is copied nowhere.
-fn judge(code: u8, token_length: u8, rest: &[u8]) -> Outcome
+fn judge(code: u8, token_length: u8, rest: &[u8]) -> Result<(), Refusal>
     requires { length rest.now ≤ max_store }
     ensures { outcome result ≡ judged code token_length rest.now }
 {
     if 8 < token_length {
-        return Outcome::Refused(Refusal::InvalidTokenLength);
+        return Err(Refusal::InvalidTokenLength);
     }
     if empty_carries(code, token_length, rest.len()) {
-        return Outcome::Refused(Refusal::EmptyCarries);
+        return Err(Refusal::EmptyCarries);
     }
     judge_options(rest)
 }
@@ -236,7 +227,7 @@ fn empty_carries(code: u8, token_length: u8, len: usize) -> bool
 }
 
 // Judges options and payload, with no record of what is found.
-fn judge_options(rest: &[u8]) -> Outcome
+fn judge_options(rest: &[u8]) -> Result<(), Refusal>
     requires { length rest.now ≤ max_store }
     ensures { outcome result ≡ options_judged rest.now max_options 0 0 }
 {
@@ -244,19 +235,16 @@ fn judge_options(rest: &[u8]) -> Outcome
     let mut number: u16 = 0;
     let mut idx = 0;
     loop {
-        match place_at(MAX_VALUE as usize, rest, number, idx) {
-            Found::Refused(e) => {
-                return Outcome::Refused(e);
-            }
+        match place_at(MAX_VALUE as usize, rest, number, idx)? {
             Found::End { marked, payload } => {
-                if marker_alone(marked, payload, rest.len()) {
-                    return Outcome::Refused(Refusal::MarkerAlone);
+                if marker_alone(true, marked, payload, rest.len()) {
+                    return Err(Refusal::MarkerAlone);
                 }
-                return Outcome::Done;
+                return Ok(());
             }
             Found::Option(r) => {
                 if MAX_OPTIONS <= count {
-                    return Outcome::Refused(Refusal::TooManyOptions);
+                    return Err(Refusal::TooManyOptions);
                 }
                 count = count + 1;
                 number = r.number;
@@ -266,21 +254,14 @@ fn judge_options(rest: &[u8]) -> Outcome
     }
 }
 
-// A marker that ends the message marks no payload.
-fn marker_alone(marked: bool, payload: usize, len: usize) -> bool
-    ensures { result ≡ both marked (eqb payload len) }
-{
-    marked && payload == len
-}
-
 // Writes two pieces, one after the other, where there is room for both.
-fn put_both(out: &mut [u8], front: &[u8], rest: &[u8]) -> Written
+fn put_both(out: &mut [u8], front: &[u8], rest: &[u8]) -> Result<usize, Refusal>
     requires { (length front.now ≤ 6) × (length rest.now ≤ max_store) }
     ensures { Converts (given (front.now ++ rest.now)) out.old result out.new }
 {
     if out.len() < front.len() + rest.len() {
-        return Written::Refused(Refusal::NoRoom);
+        return Err(Refusal::NoRoom);
     }
     let next = put_bytes(out, 0, front);
-    Written::Length(put_bytes(out, next, rest))
+    Ok(put_bytes(out, next, rest))
 }

@@ -2,34 +2,17 @@
 use std::env::FillError;
 use std::rt::Env;
 use stream::Form;
-use words::{NOWHERE, past};
 
-#[derive(Clone, Copy)]
-pub enum Asked {
-    Form(Form),
-    Nothing,
-}
-
-// `old`, `new`, or no argument, which is `old`.
-pub fn form(rt: &HostRuntime) -> Asked {
+// `old`, `new`, or no argument, which is `old`; none where there is another.
+pub fn form(rt: &HostRuntime) -> Option<Form> {
     let mut word = [0u8; 8];
     match rt.arg(1, &mut word) {
-        Err(FillError::NotPresent) => Asked::Form(Form::Old),
-        Err(FillError::TooLong) => Asked::Nothing,
-        Ok(length) => form_of(length, word),
+        Err(FillError::NotPresent) => Some(Form::Old),
+        Err(FillError::TooLong) => None,
+        Ok(length) => match word.get(..length)? {
+            b"old" => Some(Form::Old),
+            b"new" => Some(Form::New),
+            _ => None,
+        },
     }
-}
-
-// The form of a word of so many bytes.
-fn form_of(length: usize, word: [u8; 8]) -> Asked {
-    if length != 3 {
-        return Asked::Nothing;
-    }
-    if past(&word, 0, b"old") != NOWHERE {
-        return Asked::Form(Form::Old);
-    }
-    if past(&word, 0, b"new") != NOWHERE {
-        return Asked::Form(Form::New);
-    }
-    Asked::Nothing
 }

@@ -8,94 +8,55 @@
 mod asked;
 mod lines;
 
-use asked::Asked;
-use output::Console;
-use placing::put_bytes;
-use refusal::Outcome;
-use reports::{put_number, put_refused, say};
+use lines::{Freeze, WINDOW};
+use reports::{Failure, Page};
 use reread::Input;
-use stream::Form;
-use walks::Walk;
-use words::part;
+use walks::{Walk, pass};
 
 fn main(rt: HostRuntime) {
-    let mut window = [0u8; 200000];
+    let mut window = [0u8; WINDOW];
     let mut datagram = [0u8; 100000];
     let mut out = [0u8; 65536];
-    freeze_over(&rt, &mut window, &mut datagram, &mut out);
-}
-
-fn freeze_over(
-    rt: &HostRuntime,
-    window: &mut [u8; 200000],
-    datagram: &mut [u8; 100000],
-    out: &mut [u8; 65536],
-) {
-    match asked::form(rt) {
-        Asked::Form(form) => freeze_input(rt, form, window, datagram, out),
-        Asked::Nothing => say(
-            Console::of(rt),
-            b"freeze takes no argument but the form: old, as by default, or new\n",
-        ),
-    }
-}
-
-fn freeze_input(
-    rt: &HostRuntime,
-    form: Form,
-    window: &mut [u8],
-    datagram: &mut [u8],
-    out: &mut [u8],
-) {
-    let console = Console::of(rt);
-    if let Some(input) = reread::standard(rt, console) {
-        freeze(console, &input, form, window, datagram, out);
-    }
-}
-
-// Judges the lines, and freezes them where none is refused.
-fn freeze(
-    console: Console,
-    input: &Input,
-    form: Form,
-    window: &mut [u8],
-    datagram: &mut [u8],
-    out: &mut [u8],
-) {
-    let judged = lines::pass(console, input, form, false, window, datagram, out);
-    let outcome = judged.outcome;
-    match outcome {
-        Outcome::Refused(_) => report(console, judged),
-        Outcome::Done => {
-            if !judged.failed {
-                report(
-                    console,
-                    lines::pass(console, input, form, true, window, datagram, out),
-                );
-            }
-        }
-    }
-}
-
-// The verdict; nothing where reading or writing failed, of which standard error has a line.
-fn report(console: Console, walk: Walk) {
-    if walk.failed {
+    let Some(form) = asked::form(&rt) else {
+        let _ = eprintln!(rt; "freeze takes no argument but the form: old, as by default, or new");
         return;
-    }
-    let mut line = [0u8; 100];
-    let place = put_verdict(walk, &mut line);
-    say(console, part(&line, 0, place));
+    };
+    let mut lines = Freeze {
+        form,
+        datagram: &mut datagram,
+    };
+    let mut page = Page::new(rt.stdout(), &mut out);
+    reports::end(&rt, freeze(&rt, &mut lines, &mut window, &mut page));
+}
+
+// Judges the lines, by freezing them onto a page of no bytes, and freezes them where none is refused.
+fn freeze(
+    rt: &HostRuntime,
+    lines: &mut Freeze,
+    window: &mut [u8],
+    page: &mut Page,
+) -> Result<(), Failure> {
+    let input = Input::standard(rt)?;
+    let judged = pass(
+        rt,
+        &input,
+        lines,
+        window,
+        &mut Page::new(rt.stdout(), &mut []),
+    )?;
+    let walk = match judged.rejected {
+        Some(_) => judged,
+        None => pass(rt, &input, lines, window, page)?,
+    };
+    report(rt, walk, page.written());
+    Ok(())
 }
 
 // frozen, messages 2, bytes 104
-fn put_verdict(walk: Walk, line: &mut [u8]) -> usize {
-    let outcome = walk.outcome;
-    match outcome {
-        Outcome::Refused(why) => put_refused(line, 0, why, b", message ", walk.refused),
-        Outcome::Done => {
-            let place = put_number(line, 0, b"frozen, messages ", walk.messages);
-            let place = put_number(line, place, b", bytes ", walk.written);
-            put_bytes(line, place, b"\n")
-        }
-    }
+fn report(rt: &HostRuntime, walk: Walk, bytes: u64) {
+    let messages = walk.messages;
+    let _ = match walk.rejected {
+        Some(rejection) => eprintln!(rt; "{rejection}"),
+        None => eprintln!(rt; "frozen, messages {messages}, bytes {bytes}"),
+    };
 }

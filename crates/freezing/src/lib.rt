@@ -4,15 +4,15 @@
 ghost use Rattle.std.specs.Prelude.{◌≡◌, ◌+◌, ◌≤◌, length, replicate, eqb};
 ghost use Rattle.ground.specs.Choice.{pick};
 ghost use Rattle.packet.specs.Limits.{full_size};
-ghost use Rattle.packet.specs.Packet.{stores};
+ghost use Rattle.packet.specs.Packet.{held};
 ghost use Rattle.placing.specs.Put.{Puts};
 ghost use Rattle.stream.specs.Stream.{full, head, chunk_of, chunk_count, chunks_of, message_of, message_size};
 ghost use Rattle.freezing.specs.Freezing.{Writes, Freezes};
 
-use packet::Packet;
 use packet::limits::FULL_SIZE;
+use packet::{Packet, Stores};
 use placing::{put_byte, put_bytes};
-use refusal::{Refusal, Written};
+use refusal::Refusal;
 use stream::{Form, chunk_count, chunk_length, padding_of};
 use writing::to_bytes_with_limit_strict;
 
@@ -22,18 +22,15 @@ pub fn freeze<'a>(
     form: Form,
     peer: [u8; 18],
     packet: Packet,
-    datagram: &'a [u8],
-    edits: &'a [u8],
+    stores: Stores<'a>,
     stream: &mut [u8],
     start: usize,
-) -> Written
-    ensures { Freezes form peer packet (stores datagram.now edits.now) stream.old start result stream.new }
+) -> Result<usize, Refusal>
+    ensures { Freezes form peer packet (held stores.entry) stream.old start result stream.new }
 {
     let mut message = [0u8; FULL_SIZE];
-    match to_bytes_with_limit_strict(packet, FULL_SIZE, datagram, edits, &mut message) {
-        Written::Refused(e) => Written::Refused(e),
-        Written::Length(n) => write_message(form, peer, &message[..n], stream, start),
-    }
+    let n = to_bytes_with_limit_strict(packet, FULL_SIZE, stores, &mut message)?;
+    write_message(form, peer, &message[..n], stream, start)
 }
 
 // Writes a message to a stream from a start, where there is room for it.
@@ -43,19 +40,19 @@ fn write_message(
     datagram: &[u8],
     stream: &mut [u8],
     start: usize,
-) -> Written
+) -> Result<usize, Refusal>
     requires { length datagram.now ≤ full_size }
     ensures { Writes form (record { peer = peer; datagram = datagram.now }) stream.old start result stream.new }
 {
     let size = message_size(form, datagram.len());
     if stream.len() < start {
-        return Written::Refused(Refusal::NoRoom);
+        return Err(Refusal::NoRoom);
     }
     if stream.len() - start < size {
-        return Written::Refused(Refusal::NoRoom);
+        return Err(Refusal::NoRoom);
     }
     put_message(form, stream, start, &peer, datagram);
-    Written::Length(size)
+    Ok(size)
 }
 
 // How many bytes a message takes whose datagram has n.

@@ -2,21 +2,18 @@
 use Prim.Native.Nat.{ℕ}
 use mathlib.Core.Path.{◌≡◌, sym, ap, ◌∙◌}
 use mathlib.Core.List.{List}
-use native.Mathlib.Omega.{arith}
 use lib.ListN.{length, take}
-use Rattle.ground.specs.Part.{Bytes}
 use Rattle.ground.proofs.Choice.{on_lt}
 use Rattle.rfc.specs.Block.{Block, block_bytes, size}
 use Rattle.rfc.proofs.Block.{block_below}
-use Rattle.refusal.specs.Answer.{Answer, given, refused, written}
+use Rattle.refusal.specs.Answer.{Answer, given, written}
 use Rattle.refusal.proofs.Answers.{same_given, not_refused}
 use Rattle.option_value.specs.Uint.{Padded}
-use Rattle.block_value.specs.Answers.{built}
 use Rattle.block_value.specs.Size.{size_up_to}
 use Rattle.block_value.specs.Strict.{strict_reading}
 use Rattle.block_value.proofs.Distinct.{one_built, one_block_read, one_sized}
 use Rattle.block_value.proofs.StrictLaws.{Read, read, only_read, one_read, sent, written_back, made}
-use Rattle.guarantees.specs.Blocks.{IsValueOf, BlocksRead, BlocksWritten, Built, BlocksBuilt, ToldApart}
+use Rattle.guarantees.specs.Blocks.{IsValueOf, BlocksRead, BlocksWritten, BlocksBuilt, ToldApart}
 
 -- The rule of padded uints, and the value of a block.
 to_value : (value : List ℕ) (b : Padded Block) → Read value b → IsValueOf value b

@@ -8,6 +8,7 @@ use lib.Dec.{ltb, eqb}
 use lib.ListN.{length, take, length-take, length-map, length-append}
 use lib.Seq.{sets, length-sets}
 use borrow.Author.Tests.{le-ltb, ltb-false, eq-eqb, ne_eqb}
+use Rattle.std.specs.Prelude.{Ok}
 use Rattle.ground.specs.Choice.{both, either}
 use Rattle.ground.proofs.Choice.{neither, not_both}
 use Rattle.rfc.specs.Message.{Message, Opt, Rising, option_layout, options_layout, payload_layout}
@@ -36,7 +37,6 @@ use Rattle.writing.proofs.Answers.{writing_measured}
 use Rattle.writing.proofs.Strict.{passed, rising}
 use Rattle.building.specs.Building.{Starts, Adds, empty_in, token_carried, strict_start, start_judged, begun, starting, added, adding, sent_by, ending}
 use Rattle.building.specs.declared.Builder.{Builder}
-use Rattle.building.specs.declared.Built.TheVariants.{More}
 use Rattle.guarantees.specs.Building.{Parts, AddsAll, Run, BuildsAllWritten}
 use Rattle.guarantees.proofs.Building.{Filled, filled, no_bytes, third, sent_bytes, builds_as_writing}
 
@@ -72,7 +72,7 @@ adds_all (o ∷ os) b out rises short left bare room =
     let fits : b.at + length bytes ≤ length out = omega (arith, room, parts) in
     let e : adding b o (length out) ≡ given (added b o) = taken b o out (λ z. omega (arith, left, z)) rises.0 short.0 carries fits in
     let mid = sets out b.at bytes in
-    let one : Adds b o out (More (added b o)) mid = record { answer = sym e; output = rw e } in
+    let one : Adds b o out (Ok (added b o)) mid = record { answer = sym e; output = rw e } in
     let rest = adds_all os (added b o) mid rises.1 short.1 (omega arith) (λ t. absurd (no_list o os (bare t))) (omega (arith, room, parts, length-sets out b.at bytes)) in
     (rest.0, rest.1, (added b o, mid, one, rest.2))
 
@@ -168,7 +168,7 @@ module _ (s : Stores) (p : Packet) where
     abbrev headed : List ℕ
     headed = sets old 0 (head_layout p.header (bytes_of s p.token))
 
-    starts : Starts strict p.header (bytes_of s p.token) old (More first) headed
+    starts : Starts strict p.header (bytes_of s p.token) old (Ok first) headed
     starts =
         let l = length (head_layout p.header (bytes_of s p.token)) in
         let e : starting strict p.header (bytes_of s p.token) (length old) ≡ given first = rw (judged, le-ltb (length old) (0 + l) (omega (arith, room, head_length p.header (bytes_of s p.token)))) in

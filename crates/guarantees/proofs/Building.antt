@@ -10,16 +10,16 @@ use lib.Dec.{ltb, leb, eqb}
 use lib.ListN.{length, take}
 use lib.Seq.{sets}
 use borrow.Author.Tests.{ltb-false, eqb-true, not-false, eq-eqb}
+use Rattle.std.specs.Prelude.{Result, Ok}
 use Rattle.ground.specs.Choice.{both}
 use Rattle.ground.proofs.Choice.{on, on_lt, on_eq, not_both}
 use Rattle.ground.proofs.Part.{put_front}
 use Rattle.rfc.specs.Message.{Message, Opt, Rising, Options, WellFormed, option_layout, options_layout, payload_layout, layout}
 use Rattle.refusal.specs.Answer.{Answer, given, written, room_from, after}
-use Rattle.refusal.specs.declared.Written.{Written}
-use Rattle.refusal.specs.declared.Written.TheVariants.{Length}
 use Rattle.refusal.specs.Number.{number_of}
 use Rattle.refusal.proofs.Answers.{not_refused, same_given, onward_given}
-use Rattle.refusal.proofs.Distinct.{distinct, one_written}
+use Rattle.refusal.proofs.Distinct.{one_written}
+use Rattle.refusal.specs.declared.Refusal.{Refusal}
 use Rattle.class.specs.Class.{byte_of}
 use Rattle.class.specs.declared.MessageClass.{MessageClass}
 use Rattle.class.specs.declared.MessageClass.TheVariants.{Empty, Request, Response, Reserved}
@@ -31,8 +31,6 @@ use Rattle.laying.specs.Laying.{head_layout}
 use Rattle.laying.proofs.Pieces.{layout_pieces}
 use Rattle.building.specs.Building.{built_of, Starts, Adds, Ends, empty_in, token_carried, strict_start, start_judged, begun, added, adding, sent_by, ending}
 use Rattle.building.specs.declared.Builder.{Builder}
-use Rattle.building.specs.declared.Built.TheVariants.{More, Refused as NotBuilt}
-use Rattle.refusal.specs.declared.Outcome.TheVariants.{Done}
 use Rattle.packet.specs.Limits.{max_store}
 use Rattle.packet.specs.Packet.{Stores, stores, nowhere, bytes_in, bytes_of}
 use Rattle.packet.specs.Meaning.{meaning}
@@ -41,7 +39,6 @@ use Rattle.packet.specs.declared.Range.{Range}
 use Rattle.judging.specs.Judge.{lengths_of}
 use Rattle.judging.proofs.Good.{good}
 use Rattle.reading.specs.Reading.{FromBytes}
-use Rattle.reading.specs.declared.Decoded.{Decoded}
 use Rattle.measuring.specs.Measuring.{sent_payload}
 use Rattle.measuring.specs.declared.Limit.TheVariants.{Unlimited}
 use Rattle.measuring.proofs.Sizes.{measured_fits}
@@ -50,7 +47,7 @@ use Rattle.writing.proofs.Sizes.{written_length}
 use Rattle.writing.proofs.Answers.{writing_measured}
 use Rattle.guarantees.specs.Wrote.{Wrote}
 use Rattle.guarantees.specs.Apart.{TellsApart}
-use Rattle.guarantees.proofs.Refusals.{output_kept, kept_by}
+use Rattle.guarantees.proofs.Refusals.{output_kept, kept_by, said_apart}
 use Rattle.guarantees.proofs.StrictReading.{found}
 use Rattle.guarantees.proofs.RoundTrips.{front}
 use Rattle.guarantees.specs.Building.{Parts, whole, sent_whole, AddsAll, Run, BuildsLayout, BuildsAsWriting, TypedOptions, Typed, BuildsWellFormed, BuiltThenRead, BuildKept, ToldApart, OneBuild, OnePiece}
@@ -72,7 +69,7 @@ record Started (strict : Bool) (h : Header) (token old : List ℕ) (b : Builder)
   fits : length (head_layout h token) ≤ length old
   put : Put old 0 (head_layout h token) (length (head_layout h token)) new
 
-started : (strict : Bool) (h : Header) (token old : List ℕ) (b : Builder) (new : List ℕ) → Starts strict h token old (More b) new → Started strict h token old b new
+started : (strict : Bool) (h : Header) (token old : List ℕ) (b : Builder) (new : List ℕ) → Starts strict h token old (Ok b) new → Started strict h token old b new
 unfolding start_judged
 started strict h token old b new p =
     let e = onward_given (start_judged strict h (length token)) (λ _. room_from (length old) 0 (head_layout h token) (begun strict h token)) b (sym p.answer) in
@@ -97,7 +94,7 @@ record Took (b : Builder) (o : Opt) (old : List ℕ) (c : Builder) (new : List �
   fits : b.at + length (option_layout b.before o) ≤ length old
   put : Put old b.at (option_layout b.before o) (b.at + length (option_layout b.before o)) new
 
-took : (b : Builder) (o : Opt) (old : List ℕ) (c : Builder) (new : List ℕ) → Adds b o old (More c) new → Took b o old c new
+took : (b : Builder) (o : Opt) (old : List ℕ) (c : Builder) (new : List ℕ) → Adds b o old (Ok c) new → Took b o old c new
 unfolding adding
 took b o old c new p =
     let bytes = option_layout b.before o in
@@ -157,7 +154,7 @@ record Ended (b : Builder) (payload old : List ℕ) (n : ℕ) (new : List ℕ) :
   fits : n ≤ length old
   put : Put old b.at (payload_layout (sent_by b.empty payload)) n new
 
-ended : (b : Builder) (payload old : List ℕ) (n : ℕ) (new : List ℕ) → Ends b payload old (Length n) new → Ended b payload old n new
+ended : (b : Builder) (payload old : List ℕ) (n : ℕ) (new : List ℕ) → Ends b payload old (Ok n) new → Ended b payload old n new
 unfolding ending
 ended b payload old n new p =
     let bytes = payload_layout (sent_by b.empty payload) in
@@ -209,10 +206,10 @@ module _ (strict : Bool) (parts : Parts) (old : List ℕ) (n : ℕ) (new : List 
   within : length (layout (sent_whole strict parts)) ≤ length old
   within = omega (arith, end.fits, all_put.next, put_length _ _ _ _ _ start.put, put_length _ _ _ _ _ fill.put)
 
-  laid_out : Wrote (layout (sent_whole strict parts)) old (Length n) new
+  laid_out : Wrote (layout (sent_whole strict parts)) old (Ok n) new
   laid_out =
       record {
-        answer = ap Length (all_put.next ∙ zero-add (length (layout (sent_whole strict parts))));
+        answer = ap Ok (all_put.next ∙ zero-add (length (layout (sent_whole strict parts))));
         output = all_put.out ∙ put_front old (layout (sent_whole strict parts)) within;
       }
 
@@ -265,7 +262,7 @@ module _ (strict : Bool) (parts : Parts) (old : List ℕ) (n : ℕ) (new : List 
       ap (λ (l : List ℕ). layout (carrying (meaning s p) l)) same_sent
       ∙ ap (λ (m : Message). layout (carrying m (sent_by (empty_in strict parts.header.code) parts.payload))) e
 
-  same_output : (r : Written) (also : List ℕ) → ToBytes strict Unlimited p s old r also → (k : ℕ) → r ≡ Length k → (k ≡ n) × (also ≡ new)
+  same_output : (r : Result ℕ Refusal) (also : List ℕ) → ToBytes strict Unlimited p s old r also → (k : ℕ) → r ≡ Ok k → (k ≡ n) × (also ≡ new)
   same_output r also promise k is =
       let w : writing strict Unlimited (length old) s p ≡ given k = sym promise.answer ∙ ap written is in
       let f = measured_fits strict Unlimited (length old) (lengths_of s) p k (sym (writing_measured strict Unlimited (length old) s p) ∙ w) in
@@ -323,10 +320,10 @@ module _ (parts : Parts) (typed : Typed parts) (old : List ℕ) (n : ℕ) (new :
             };
       }
 
-  laid_whole : Wrote (layout (whole parts)) old (Length n) new
-  laid_whole = subst (λ (m : Message). Wrote (layout m) old (Length n) new) all_sent (laid_out true parts old n new run)
+  laid_whole : Wrote (layout (whole parts)) old (Ok n) new
+  laid_whole = subst (λ (m : Message). Wrote (layout m) old (Ok n) new) all_sent (laid_out true parts old n new run)
 
-  read_back : n ≤ max_store → (d : Decoded) → FromBytes true (take n new) d → (d.outcome ≡ Done) × ((edits : List ℕ) → meaning (stores (take n new) edits) d.packet ≡ whole parts)
+  read_back : n ≤ max_store → (d : Result Packet Refusal) → FromBytes true (take n new) d → (q : Packet) × (d ≡ Ok q) × ((edits : List ℕ) → meaning (stores (take n new) edits) q ≡ whole parts)
   read_back short d read =
       let put = all_put true parts old n new run in
       let same : n ≡ length (layout (whole parts)) = put.next ∙ (zero-add _ ∙ ap (λ (m : Message). length (layout m)) all_sent) in
@@ -346,10 +343,7 @@ build_kept = (
 )
 
 one_builder : TellsApart built_of
-one_builder (More b) (More c) e = cc
-one_builder (More b) (NotBuilt y) e = cc
-one_builder (NotBuilt x) (More c) e = cc
-one_builder (NotBuilt x) (NotBuilt y) e = let k : number_of x ≡ number_of y = cc in rw (distinct x y k)
+one_builder = said_apart Builder Builder built_of (λ b. b) (record { value = λ v. refl; refusal = λ e. refl; one = λ v w e. e })
 
 pub told_apart : ToldApart
 told_apart = record { builders = one_builder }

@@ -1,20 +1,20 @@
 -- Compaction: what is kept, what is freed, and what a second compaction and every writer answer of what it leaves.
 use Prim.Native.Nat.{ℕ, ◌+◌, ◌≤◌}
-use mathlib.Core.Path.{◌≡◌, refl, sym, ap, ◌∙◌}
+use mathlib.Core.Path.{◌≡◌, refl, sym, ap, subst, ◌∙◌}
 use mathlib.Core.Bool.{Bool, true, false}
 use mathlib.Core.List.{List, [], ◌∷◌, ◌++◌}
 use mathlib.Core.Logic.{inl}
 use native.Mathlib.Omega.{arith}
 use lib.ListN.{length, take, drop, take-append-drop}
 use lib.Seq.{take_at, drop_at}
+use Rattle.std.specs.Prelude.{Result, Ok, Err}
 use Rattle.ground.proofs.Choice.{on_le}
 use Rattle.rfc.specs.Message.{Message, layout}
-use Rattle.refusal.specs.Answer.{Answer, given, refused, written, after}
+use Rattle.refusal.specs.Answer.{given, refused, after}
+use Rattle.refusal.specs.Number.{number_of}
 use Rattle.refusal.specs.declared.Refusal.{Refusal}
-use Rattle.refusal.specs.declared.Written.{Written}
-use Rattle.refusal.specs.declared.Written.TheVariants.{Length, Refused}
-use Rattle.refusal.proofs.Answers.{not_refused}
-use Rattle.refusal.proofs.Distinct.{one_written}
+use Rattle.refusal.proofs.Answers.{not_refused, same_given, same_refused}
+use Rattle.refusal.proofs.Distinct.{distinct, one_written}
 use Rattle.class.specs.declared.MessageClass.{MessageClass}
 use Rattle.class.specs.declared.MessageClass.TheVariants.{Empty, Request, Response, Reserved}
 use Rattle.packet.specs.Limits.{max_store}
@@ -29,17 +29,17 @@ use Rattle.judging.proofs.Good.{not_bad}
 use Rattle.measuring.specs.Measuring.{sent_payload, strictly, sized}
 use Rattle.measuring.specs.declared.Limit.{Limit}
 use Rattle.measuring.proofs.Sizes.{measured_good}
-use Rattle.writing.specs.Writing.{sent, bytes_written, writing, ToBytes}
+use Rattle.writing.specs.Writing.{bytes_written, writing, ToBytes}
 use Rattle.writing.proofs.Answers.{writing_measured}
 use Rattle.typed_options.specs.Apart.{AllApart, Untouched}
-use Rattle.compacting.specs.Compacting.{live_bytes, values_length, relaid, relocated, compacting, packet_beside, Compacts}
+use Rattle.compacting.specs.Compacting.{live_bytes, values_length, relaid, relocated, compacting, end_given, packet_left, Compacts}
 use Rattle.compacting.specs.declared.Compacted.{Compacted}
 use Rattle.compacting.proofs.Relaid.{relaid_size, relocated_records, relocated_again}
 use Rattle.compacting.proofs.Kept.{meaning_kept}
 use Rattle.compacting.proofs.Done.{Done, done, counted, short_then, good_then, again, live_then}
 use Rattle.guarantees.specs.Compaction.{GivesBack, Compaction, CompactionLeaves, CompactionKept, OneCompaction}
 use Rattle.guarantees.proofs.Homes.{frozen_stays}
-use Rattle.guarantees.proofs.Refusals.{output_kept}
+use Rattle.guarantees.proofs.Refusals.{kept_by}
 
 -- Records relaid up to a place are apart from what is put there or after it.
 relaid_apart : (start len at : ℕ) (rs : List OptionRecord) → at + values_length rs ≤ start → AllApart start len (relaid at rs)
@@ -72,23 +72,23 @@ same_bytes strict s t p q h m =
     let payload : bytes_of t (sent_payload strict q.header.code q.payload) ≡ bytes_of s (sent_payload strict p.header.code p.payload) = ap (λ x. bytes_of t (sent_payload strict x.code q.payload)) h ∙ sent_bytes s t strict p.header.code p.payload q.payload (ap (λ (x : Message). x.payload) m) in
     λ k. layout (record { version = (m k).version; type = (m k).type; code = (m k).code; id = (m k).id; token = (m k).token; options = (m k).options; payload = payload k })
 
-module _ (p : Packet) (shaped : Shaped p) (s : Stores) (second : List ℕ) (r : Compacted) (edits buffer : List ℕ) (n : ℕ) (c : Compacts p s second r edits buffer) (h : r.outcome ≡ Length n) where
-  w : Done p s second r edits buffer n
-  w = done p s second r edits buffer n c h
+module _ (p : Packet) (shaped : Shaped p) (s : Stores) (second : List ℕ) (edits buffer : List ℕ) (r : Compacted) (c : Compacts p s second (Ok r) edits buffer) where
+  w : Done p s second r edits buffer
+  w = done p s second r edits buffer c
 
   used : length (records_of p) ≡ p.count
-  used = counted p shaped.array s second r edits buffer n w
+  used = counted p shaped.array s second r edits buffer w
 
   -- An edit store that is the same up to the end begins with the live bytes.
-  begins : (e : List ℕ) → take n e ≡ take n edits → e ≡ live_bytes s p ++ drop n e
+  begins : (e : List ℕ) → take r.end e ≡ take r.end edits → e ≡ live_bytes s p ++ drop r.end e
   begins e t =
-      sym (take-append-drop n e)
-      ∙ ap (λ (l : List ℕ). l ++ drop n e) (t ∙ (ap (take n) w.edits ∙ take_at (live_bytes s p) (drop n s.edits) n w.long))
+      sym (take-append-drop r.end e)
+      ∙ ap (λ (l : List ℕ). l ++ drop r.end e) (t ∙ (ap (take r.end) w.edits ∙ take_at (live_bytes s p) (drop r.end s.edits) r.end w.long))
 
-  kept : (d e : List ℕ) → take n e ≡ take n edits → meaning (stores d e) r.packet ≡ meaning s p
-  kept d e t = ap (meaning (stores d e)) w.packet ∙ meaning_kept s p w.good used d e (drop n e) (begins e t)
+  kept : (d e : List ℕ) → take r.end e ≡ take r.end edits → meaning (stores d e) r.packet ≡ meaning s p
+  kept d e t = ap (meaning (stores d e)) w.packet ∙ meaning_kept s p w.good used d e (drop r.end e) (begins e t)
 
-  freed : (start len : ℕ) → n ≤ start → Untouched start len r.packet (records_of r.packet)
+  freed : (start len : ℕ) → r.end ≤ start → Untouched start len r.packet (records_of r.packet)
   freed start len f =
       rw (w.packet, relocated_records p used)
       (record {
@@ -102,17 +102,23 @@ module _ (p : Packet) (shaped : Shaped p) (s : Stores) (second : List ℕ) (r : 
     then = stores d edits
 
     -- A second compaction.
-    second_time : (other : List ℕ) → n ≤ length other → (q : Compacted) (e b : List ℕ) → Compacts r.packet then other q e b
-        → (q ≡ r) × (e ≡ edits) × (b ≡ live_bytes s p ++ drop n other)
-    second_time other room q e b x =
-        let y : Compacts (relocated p) then other q e b = rw w.packet at x in
-        let a : compacting (lengths_of then) (length other) (relocated p) ≡ given n = again p shaped.array s second r edits buffer n w d short (length other) room in
-        let outcome : q.outcome ≡ r.outcome = one_written q.outcome (Length n) (y.answer ∙ a) ∙ sym h in
-        let z = done (relocated p) then other q e b n y (outcome ∙ h) in
-        let live = live_then p shaped.array s second r edits buffer n w d short in
+    second_time : (other : List ℕ) → r.end ≤ length other → (q : Result Compacted Refusal) (e b : List ℕ) → Compacts r.packet then other q e b
+        → (q ≡ Ok r) × (e ≡ edits) × (b ≡ live_bytes s p ++ drop r.end other)
+    second_time other room (Err k) e b x =
+        let y : Compacts (relocated p) then other (Err k) e b = rw w.packet at x in
+        not_refused (sym (again p shaped.array s second r edits buffer w d short (length other) room) ∙ sym y.answer)
+    second_time other room (Ok q) e b x =
+        let y : Compacts (relocated p) then other (Ok q) e b = rw w.packet at x in
+        let a : compacting (lengths_of then) (length other) (relocated p) ≡ given r.end = again p shaped.array s second r edits buffer w d short (length other) room in
+        let end : q.end ≡ r.end = same_given (y.answer ∙ a) in
+        let z = done (relocated p) then other q e b y in
+        let live = live_then p shaped.array s second r edits buffer w d short in
         let packet : q.packet ≡ r.packet = z.packet ∙ (relocated_again p used ∙ sym w.packet) in
-        let rest : drop n edits ≡ drop n s.edits = ap (drop n) w.edits ∙ drop_at (live_bytes s p) (drop n s.edits) n w.long in
-        (λ k. record { outcome = outcome k; packet = packet k }, z.edits ∙ ((λ k. live k ++ rest k) ∙ sym w.edits), z.buffer ∙ ap (λ (l : List ℕ). l ++ drop n other) live)
+        let rest : drop q.end edits ≡ drop r.end s.edits = ap (λ (k : ℕ). drop k edits) end ∙ (ap (drop r.end) w.edits ∙ drop_at (live_bytes s p) (drop r.end s.edits) r.end w.long) in (
+          λ k. Ok (record { end = end k; packet = packet k }),
+          z.edits ∙ ((λ k. live k ++ rest k) ∙ sym w.edits),
+          z.buffer ∙ (λ k. live k ++ drop (end k) other),
+        )
 
     -- What a writer answers: the sizes are those that they were.
     same_sizes : (strict : Bool) (limit : Limit) (room : ℕ) → sized strict limit room (relocated p) ≡ sized strict limit room p
@@ -126,18 +132,18 @@ module _ (p : Packet) (shaped : Shaped p) (s : Stores) (second : List ℕ) (r : 
     same_answer strict limit room =
         ap (writing strict limit room then) w.packet
         ∙ (writing_measured strict limit room then (relocated p)
-        ∙ (measured_good strict limit room (lengths_of then) (relocated p) (short_then p shaped.array s second r edits buffer n w d short) (not_bad (lengths_of then) (relocated p) (good_then p shaped.array s second r edits buffer n w d short))
+        ∙ (measured_good strict limit room (lengths_of then) (relocated p) (short_then p shaped.array s second r edits buffer w d short) (not_bad (lengths_of then) (relocated p) (good_then p shaped.array s second r edits buffer w d short))
         ∙ (same_sizes strict limit room
         ∙ sym (writing_measured strict limit room s p ∙ measured_good strict limit room (lengths_of s) p w.fits.short w.fits.sound))))
 
-    same_written : (strict : Bool) (limit : Limit) (old : List ℕ) (x v : Written) (new other : List ℕ) → ToBytes strict limit p s old x new
+    same_written : (strict : Bool) (limit : Limit) (old : List ℕ) (x v : Result ℕ Refusal) (new other : List ℕ) → ToBytes strict limit p s old x new
         → ToBytes strict limit r.packet then old v other → (x ≡ v) × (new ≡ other)
     same_written strict limit old x v new other a b =
         let answer = same_answer strict limit (length old) in
         let bytes = same_bytes strict s then p r.packet (ap (λ (q : Packet). q.header) w.packet) (kept d edits refl) in
         (one_written x v (a.answer ∙ sym (b.answer ∙ answer)), a.output ∙ sym (b.output ∙ (λ k. after (answer k) 0 (bytes k) old)))
 
-  gives_back : GivesBack p s second r edits buffer n
+  gives_back : GivesBack p s second r edits buffer
   gives_back =
       record {
         end = w.fits.sum;
@@ -150,23 +156,30 @@ module _ (p : Packet) (shaped : Shaped p) (s : Stores) (second : List ℕ) (r : 
       }
 
 pub compaction : Compaction
-compaction = gives_back
+compaction p shaped s second q edits buffer r c is =
+    gives_back p shaped s second edits buffer r (subst (λ (x : Result Compacted Refusal). Compacts p s second x edits buffer) is c)
 
 pub compaction_leaves : CompactionLeaves
 compaction_leaves p s second r edits buffer promise range e = frozen_stays s.datagram s.edits edits range e
 
--- What stands beside a refused compaction is the packet as it came.
-packet_left : (a : Answer ℕ) (p q : Packet) (r : Written) → written r ≡ a → q ≡ packet_beside a p → (e : Refusal) → r ≡ Refused e → q ≡ p
-packet_left (given n) p q r w s e is = not_refused (sym w ∙ ap written is)
-packet_left (refused k) p q r w s e is = s
-
 pub compaction_kept : CompactionKept
 compaction_kept p s second r edits buffer c e is =
     let a = compacting (lengths_of s) (length second) p in
-    (packet_left a p r.packet r.outcome c.answer c.packet e is, output_kept a 0 (live_bytes s p) s.edits r.outcome edits c.answer c.edits e is, output_kept a 0 (live_bytes s p) second r.outcome buffer c.answer c.buffer e is)
+    let no : a ≡ refused (number_of e) = sym c.answer ∙ ap end_given is in
+    (ap (packet_left p) is, kept_by a 0 (live_bytes s p) s.edits edits (number_of e) no c.edits, kept_by a 0 (live_bytes s p) second buffer (number_of e) no c.buffer)
+
+-- What two compactions that meet the promise answer.
+one_answer : (p : Packet) (r q : Result Compacted Refusal) → end_given r ≡ end_given q → packet_left p r ≡ packet_left p q → r ≡ q
+one_answer p (Ok r) (Ok q) e h =
+    let end : r.end ≡ q.end = same_given e in
+    λ k. Ok (record { end = end k; packet = h k })
+one_answer p (Ok r) (Err y) e h = not_refused e
+one_answer p (Err x) (Ok q) e h = not_refused (sym e)
+one_answer p (Err x) (Err y) e h = ap Err (distinct x y (same_refused e))
 
 pub one_compaction : OneCompaction
-one_compaction p s second r q edits also buffer other c x =
-    let outcome = one_written r.outcome q.outcome (c.answer ∙ sym x.answer) in
-    let packet = c.packet ∙ sym x.packet in
-    (λ k. record { outcome = outcome k; packet = packet k }, c.edits ∙ sym x.edits, c.buffer ∙ sym x.buffer)
+one_compaction p s second r q edits also buffer other c x = (
+  one_answer p r q (c.answer ∙ sym x.answer) (c.packet ∙ sym x.packet),
+  c.edits ∙ sym x.edits,
+  c.buffer ∙ sym x.buffer,
+)

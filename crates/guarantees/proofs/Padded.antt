@@ -5,26 +5,22 @@ use mathlib.Core.Bool.{Bool, true, false}
 use mathlib.Core.List.{List, [], ◌∷◌}
 use lib.Dec.{ltb}
 use lib.ListN.{length}
+use Rattle.std.specs.Prelude.{Result, Ok, Err, Some, None, Option}
 use Rattle.ground.specs.Choice.{pick}
-use Rattle.ground.specs.Table.{listed}
-use Rattle.ground.proofs.Choice.{on}
 use Rattle.rfc.specs.Uint.{number}
 use Rattle.refusal.specs.Answer.{Answer, given, refused, onward, written}
+use Rattle.refusal.specs.declared.Refusal.{Refusal}
 use Rattle.option_value.specs.Uint.{leading_zeros, padded, read_uint}
 use Rattle.option_value.proofs.Padding.{one_pads, pads_length}
 use Rattle.option_value.proofs.Uints.{read_pads, pads_read, output_then_read}
-use Rattle.option_value.proofs.Distinct.{one_uint, one_u8, one_u16, one_u32, one_u64}
+use Rattle.option_value.proofs.Distinct.{one_uint, one_value}
 use Rattle.block_value.proofs.PlainLaws.{plain_pads}
 use Rattle.block_value.proofs.StrictLaws.{read}
-use Rattle.tables.specs.Numbers.{content_formats}
 use Rattle.packet.specs.Packet.{records_of, of_number, value_of}
 use Rattle.packet.specs.declared.OptionRecord.{OptionRecord}
-use Rattle.typed_options.specs.Getters.{on_first, Found, number as found, absent, format_of, format_in, observed, observe_in}
+use Rattle.typed_options.specs.Getters.{on_first, no_format, Found, number as found, absent, format_of, format_in, observed, observe_in}
 use Rattle.typed_options.proofs.Distinct.{one_observe}
-use Rattle.typed_options.specs.declared.ContentFormat.{ContentFormat}
-use Rattle.typed_options.specs.declared.ContentFormat.TheVariants.{None}
 use Rattle.typed_options.specs.declared.Observe.{Observe}
-use Rattle.typed_options.specs.declared.Observe.TheVariants.{Value, None as Unset, Refused}
 use Rattle.guarantees.specs.Padded.{EveryWidth, FourWidths, OneCount, LengthCounted, NoneWritten, SameNumber, BlocksCount, format_zeros, observe_zeros, GettersCount, ToldApart}
 
 pub every_width : EveryWidth
@@ -71,17 +67,17 @@ first f (r ∷ rs) none some g h = h r
 -- The count of what was read as a content format, and as Observe.
 format_of_lem : (t : Bool) (bs : List ℕ) → format_zeros (format_of (pick t (refused 13) (given (padded bs)))) ≡ pick t 0 (leading_zeros bs)
 format_of_lem true bs = refl
-format_of_lem false bs = on (λ (f : ContentFormat). format_zeros f ≡ leading_zeros bs) (listed (number bs) content_formats) (λ _. refl) (λ _. refl)
+format_of_lem false bs = refl
 
 abbrev zeros_found : Answer Found → ℕ
 zeros_found (given (found n)) = n.zeros
 zeros_found (given absent) = 0
 zeros_found (refused k) = 0
 
-told : (r : Observe) → observe_zeros r ≡ zeros_found (observed r)
-told (Value n z) = refl
-told Unset = refl
-told (Refused e) = refl
+told : (r : Result (Option Observe) Refusal) → observe_zeros r ≡ zeros_found (observed r)
+told (Ok (Some o)) = refl
+told (Ok None) = refl
+told (Err e) = refl
 
 observe_of : (t : Bool) (bs : List ℕ) → zeros_found (onward (pick t (refused 13) (given (padded bs))) (λ n. given (found n))) ≡ pick t 0 (leading_zeros bs)
 observe_of true bs = refl
@@ -92,7 +88,7 @@ unfolding read_uint format_in observe_in
 getters_count s p = (
   λ r promise.
       ap format_zeros promise
-      ∙ first format_zeros (of_number 12 (records_of p)) (None 0) (λ r. format_of (read_uint 2 (value_of s r))) _
+      ∙ first format_zeros (of_number 12 (records_of p)) no_format (λ r. format_of (read_uint 2 (value_of s r))) _
       (λ r. format_of_lem (ltb 2 (length (value_of s r))) (value_of s r)),
   λ r promise.
       told r
@@ -105,9 +101,6 @@ pub told_apart : ToldApart
 told_apart =
     record {
       uints = one_uint;
-      uints_8 = one_u8;
-      uints_16 = one_u16;
-      uints_32 = one_u32;
-      uints_64 = one_u64;
+      values = one_value;
       observe_values = one_observe;
     }

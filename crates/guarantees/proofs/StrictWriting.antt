@@ -4,11 +4,11 @@ use mathlib.Core.Path.{sym, ap, ◌∙◌, subst}
 use mathlib.Core.Bool.{true}
 use mathlib.Core.List.{List}
 use lib.ListN.{length}
+use Rattle.std.specs.Prelude.{Result, Ok}
 use Rattle.rfc.specs.Message.{Message, WellFormed, layout}
 use Rattle.refusal.specs.Answer.{written}
-use Rattle.refusal.specs.declared.Written.{Written}
-use Rattle.refusal.specs.declared.Written.TheVariants.{Length}
 use Rattle.refusal.proofs.Distinct.{one_written}
+use Rattle.refusal.specs.declared.Refusal.{Refusal}
 use Rattle.packet.specs.Packet.{Stores}
 use Rattle.packet.specs.Shape.{Shaped}
 use Rattle.packet.specs.Meaning.{meaning}
@@ -19,13 +19,13 @@ use Rattle.writing.proofs.Strict.{Writable, strict_writes, strict_output, strict
 use Rattle.guarantees.specs.Wrote.{Wrote}
 use Rattle.guarantees.specs.StrictWriting.{Sound, Enough, StrictWriting, WritesStrictly}
 
-module _ (limit : Limit) (p : Packet) (shaped : Shaped p) (s : Stores) (b : Held s) (old : List ℕ) (r : Written) (new : List ℕ) (promise : ToBytes true limit p s old r new) where
+module _ (limit : Limit) (p : Packet) (shaped : Shaped p) (s : Stores) (b : Held s) (old : List ℕ) (r : Result ℕ Refusal) (new : List ℕ) (promise : ToBytes true limit p s old r new) where
   -- What is writable is written, as the layout of its meaning.
   written_so : Writable limit (length old) s p → Wrote (layout (meaning s p)) old r new
   written_so w =
       let is = strict_writes limit (length old) s p shaped w in
       record {
-        answer = one_written r (Length (length (layout (meaning s p)))) (promise.answer ∙ is);
+        answer = one_written r (Ok (length (layout (meaning s p)))) (promise.answer ∙ is);
         output = promise.output ∙ strict_output limit (length old) s p shaped w old w.fits;
       }
 

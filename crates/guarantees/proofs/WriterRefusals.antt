@@ -5,14 +5,13 @@ use mathlib.Core.Bool.{Bool, true, false, not}
 use lib.Dec.{T, ltb, eqb}
 use lib.ListN.{length}
 use native.Mathlib.Omega.{arith}
+use Rattle.std.specs.Prelude.{Result, Ok, Err}
 use Rattle.ground.specs.Table.{listed}
 use Rattle.ground.specs.Choice.{both}
 use Rattle.ground.proofs.Choice.{on, on_lt}
 use Rattle.refusal.specs.Answer.{Answer, refused, onward, written, fitted}
 use Rattle.refusal.specs.Number.{number_of}
 use Rattle.refusal.specs.declared.Refusal.{Refusal}
-use Rattle.refusal.specs.declared.Written.{Written}
-use Rattle.refusal.specs.declared.Written.TheVariants.{Length, Refused}
 use Rattle.refusal.proofs.Answers.{Refusing, on_refused, refusing_onward, not_refused, same_refused}
 use Rattle.packet.specs.Packet.{Stores}
 use Rattle.packet.specs.declared.Packet.{Packet}
@@ -82,17 +81,17 @@ module _ (strict : Bool) (limit : Limit) (room : ℕ) (s : Stores) (p : Packet) 
   other = refusing_onward Neither (strictly strict p) _ strict_other (λ _. size_other)
 
   -- A writer's answer, and that it is neither.
-  module _ (r : Written) (answer : written r ≡ writing strict limit room s p) where
-    sound_then : Sound s p → (e : Refusal) → r ≡ Refused e → Neither (number_of e)
+  module _ (r : Result ℕ Refusal) (answer : written r ≡ writing strict limit room s p) where
+    sound_then : Sound s p → (e : Refusal) → r ≡ Err e → Neither (number_of e)
     unfolding writing
     sound_then k e is =
         let rest : written r ≡ after = answer ∙ rw (k.short, k.records) refl in
         on_refused Neither after (number_of e) other (sym rest ∙ ap written is)
 
-    module _ (f : (e : Refusal) → r ≡ Refused e → Neither (number_of e)) where
-      not_so : (w : Written) → r ≡ w → (k : ℕ) → written w ≡ refused k → Neither k
-      not_so (Length n) is k e = not_refused e
-      not_so (Refused e) is k q = subst Neither (same_refused q) (f e is)
+    module _ (f : (e : Refusal) → r ≡ Err e → Neither (number_of e)) where
+      not_so : (w : Result ℕ Refusal) → r ≡ w → (k : ℕ) → written w ≡ refused k → Neither k
+      not_so (Ok n) is k e = not_refused e
+      not_so (Err e) is k q = subst Neither (same_refused q) (f e is)
 
       good : (t : Bool) → bad_packet (lengths_of s) p ≡ t → is_too_long (lengths_of s) ≡ false → bad_packet (lengths_of s) p ≡ false
       unfolding writing

@@ -1,6 +1,6 @@
 -- The default limit of a message is the given limit of 1,152 bytes: RFC 7252, section 4.6.
-use Rattle.std.specs.Prelude.{ℕ, ◌↔◌, Bool, List}
-use Rattle.refusal.specs.declared.Written.{Written}
+use Rattle.std.specs.Prelude.{ℕ, ◌↔◌, Bool, List, Result}
+use Rattle.refusal.specs.declared.Refusal.{Refusal}
 use Rattle.packet.specs.Packet.{Stores}
 use Rattle.packet.specs.declared.Packet.{Packet}
 use Rattle.measuring.specs.declared.Limit.TheVariants.{Default, Given}
@@ -10,5 +10,5 @@ use Rattle.writing.specs.Writing.{ToBytes}
 -- the other way round.
 abbrev pub DefaultLimit : Type 0
 DefaultLimit =
-    (strict : Bool) (p : Packet) (s : Stores) (old : List ℕ) (r : Written) (new : List ℕ)
+    (strict : Bool) (p : Packet) (s : Stores) (old : List ℕ) (r : Result ℕ Refusal) (new : List ℕ)
     → ToBytes strict Default p s old r new ↔ ToBytes strict (Given 1152) p s old r new

@@ -1,10 +1,9 @@
 -- What edits do to the message that a packet means, over any two stores: an edit that is done changes what it names and nothing else,
 -- and leaves a packet that edits take.
-use Rattle.std.specs.Prelude.{ℕ, ◌≡◌, false, List, [], ◌∷◌, map, length}
+use Rattle.std.specs.Prelude.{ℕ, ◌≡◌, false, List, [], ◌∷◌, map, length, Result, Ok, Err}
 use Rattle.rfc.specs.Uint.{uint}
 use Rattle.refusal.specs.Answer.{Answer}
 use Rattle.refusal.specs.declared.Refusal.{Refusal}
-use Rattle.refusal.specs.declared.Outcome.TheVariants.{Done, Refused as Not}
 use Rattle.packet.specs.Packet.{Stores, stores, bytes_of, records_of}
 use Rattle.packet.specs.Meaning.{meaning}
 use Rattle.packet.specs.declared.Packet.{Packet}
@@ -12,7 +11,6 @@ use Rattle.packet.specs.declared.Range.{Range}
 use Rattle.judging.specs.Judge.{misordered}
 use Rattle.splicing.specs.Edited.{edited, Edits}
 use Rattle.splicing.specs.Splice.{ranges_in, homed}
-use Rattle.splicing.specs.declared.Edited.{Edited}
 use Rattle.editing.specs.Edit.{removed, token_set, payload_set, added, option_set, cleared, cleared_all}
 use Rattle.editing.specs.Message.{with_options, with_token, with_payload, option_added, options_cleared, options_set}
 use Rattle.typed_options.specs.Apart.{Untouched}
@@ -22,7 +20,7 @@ use Rattle.guarantees.specs.Apart.{TellsApart}
 
 -- An edit that meets its promise and is done: over any two stores the new packet means this, and edits take it.
 abbrev pub Does : Packet → Answer Packet → (Stores → Packet → Type 0) → Type 0
-Does p a Means = (r : Edited) → Edits p a r → r.outcome ≡ Done → ((s : Stores) → Means s r.packet) × (misordered r.packet ≡ false)
+Does p a Means = (r : Result Packet Refusal) → Edits p a r → (q : Packet) → r ≡ Ok q → ((s : Stores) → Means s q) × (misordered q ≡ false)
 
 pub record EditsMean (p : Packet) : Type 0 where
   -- The token, and the payload, are what the range names.
@@ -39,22 +37,22 @@ pub record EditsMean (p : Packet) : Type 0 where
 
 -- The two setters, over any datagram and the edit store that they leave, where the bytes that they put touch no range that stays in use: a content format
 -- is one option 12 more, and Observe is the only option 6.
-pub record SettersMean (p : Packet) (start n : ℕ) (old : List ℕ) (r : Edited) (new : List ℕ) : Type 0 where
-  pub format : Sets p (format_set old start p n) start (uint 2 n) old r new → r.outcome ≡ Done → Untouched start (length (uint 2 n)) p (records_of p)
-      → (d : List ℕ) → meaning (stores d new) r.packet ≡ option_added (meaning (stores d old) p) 12 (uint 2 n)
-  pub observe : Sets p (observe_set old start p n) start (uint 4 n) old r new → r.outcome ≡ Done → Untouched start (length (uint 4 n)) p (removed 6 (records_of p))
-      → (d : List ℕ) → meaning (stores d new) r.packet ≡ options_set (meaning (stores d old) p) 6 (uint 4 n ∷ [])
+pub record SettersMean (p : Packet) (start n : ℕ) (old : List ℕ) (r : Result Packet Refusal) (new : List ℕ) : Type 0 where
+  pub format : Sets p (format_set old start p n) start (uint 2 n) old r new → (q : Packet) → r ≡ Ok q → Untouched start (length (uint 2 n)) p (records_of p)
+      → (d : List ℕ) → meaning (stores d new) q ≡ option_added (meaning (stores d old) p) 12 (uint 2 n)
+  pub observe : Sets p (observe_set old start p n) start (uint 4 n) old r new → (q : Packet) → r ≡ Ok q → Untouched start (length (uint 4 n)) p (removed 6 (records_of p))
+      → (d : List ℕ) → meaning (stores d new) q ≡ options_set (meaning (stores d old) p) 6 (uint 4 n ∷ [])
 
--- A refused edit hands back the packet as it came.
+-- Beside a refused edit stands the packet as it came.
 abbrev pub PacketKept : Type 0
-PacketKept = (a : Answer Packet) (old : Packet) (r : Edited) → Edits old a r → DoneOr r.outcome r.packet old
+PacketKept = (a : Answer Packet) (old : Packet) (r : Result Packet Refusal) → Edits old a r → DoneOr r (edited old r) old
 
 -- A refused setter leaves the edit store as it was, too.
 abbrev pub StoreKept : Type 0
 StoreKept =
-    (a : Answer Packet) (old : Packet) (r : Edited) (start : ℕ) (bytes store new : List ℕ) → Sets old a start bytes store r new
-    → (e : Refusal) → r.outcome ≡ Not e → new ≡ store
+    (a : Answer Packet) (old : Packet) (r : Result Packet Refusal) (start : ℕ) (bytes store new : List ℕ) → Sets old a start bytes store r new
+    → (e : Refusal) → r ≡ Err e → new ≡ store
 
 -- The definition that a promise of edits tells its answer by tells answers apart.
 pub record ToldApart : Type 0 where
-  pub edits : TellsApart edited
+  pub edits : (old : Packet) → TellsApart (edited old)

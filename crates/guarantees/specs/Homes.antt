@@ -1,12 +1,12 @@
 -- Two stores: a value is handed back as a part of the one that holds it, and what is frozen stays. No operation takes a datagram to write into, and what becomes of the edit store touches nothing
 -- that a range of the datagram names.
-use Rattle.std.specs.Prelude.{ℕ, ◌≡◌, List, length}
+use Rattle.std.specs.Prelude.{ℕ, ◌≡◌, List, length, Result}
 use Rattle.refusal.specs.Answer.{Answer}
+use Rattle.refusal.specs.declared.Refusal.{Refusal}
 use Rattle.packet.specs.Packet.{chosen, Stores, stores, bytes_of, place_of}
 use Rattle.packet.specs.declared.Packet.{Packet}
 use Rattle.packet.specs.declared.Range.{Range}
 use Rattle.packet.specs.declared.Home.TheVariants.{Datagram}
-use Rattle.splicing.specs.declared.Edited.{Edited}
 use Rattle.typed_options.specs.Apart.{Apart}
 use Rattle.typed_options.specs.Setters.{Sets}
 
@@ -29,5 +29,5 @@ FrozenStays = (datagram old new : List ℕ) (r : Range) → r.home ≡ Datagram 
 -- of the edit store that end before these bytes or start after them.
 abbrev pub SetterLeaves : Type 0
 SetterLeaves =
-    (datagram old new : List ℕ) (p : Packet) (a : Answer Packet) (start : ℕ) (bytes : List ℕ) (e : Edited) → Sets p a start bytes old e new
+    (datagram old new : List ℕ) (p : Packet) (a : Answer Packet) (start : ℕ) (bytes : List ℕ) (e : Result Packet Refusal) → Sets p a start bytes old e new
     → (r : Range) → Apart start (length bytes) r → bytes_of (stores datagram new) r ≡ bytes_of (stores datagram old) r

@@ -1,34 +1,33 @@
 -- When plain and strict disagree: seven statements on the two readers' answers to one datagram. They hold of every datagram; over
 -- 70,000 bytes both modes refuse.
-use Rattle.std.specs.Prelude.{ℕ, ◌<◌, ◌≡◌, ◌⊎◌, ◌↔◌, Bool, true, false, List, [], ◌∷◌, ◌++◌, T, length}
+use Rattle.std.specs.Prelude.{ℕ, ◌<◌, ◌≡◌, ◌⊎◌, ◌↔◌, Bool, true, false, List, [], ◌∷◌, ◌++◌, T, length, Result, Ok, Err}
 use Rattle.ground.specs.Part.{Bytes, Among}
 use Rattle.ground.specs.Table.{listed}
 use Rattle.rfc.specs.Message.{Opt, Message, layout}
 use Rattle.refusal.specs.Number.{number_of}
 use Rattle.refusal.specs.declared.Refusal.{Refusal}
-use Rattle.refusal.specs.declared.Outcome.TheVariants.{Done, Refused}
 use Rattle.packet.specs.Limits.{max_plain_value}
 use Rattle.packet.specs.Packet.{stores, new_packet}
 use Rattle.packet.specs.Meaning.{meaning}
-use Rattle.reading.specs.Reading.{FromBytes}
-use Rattle.reading.specs.declared.Decoded.{Decoded}
+use Rattle.packet.specs.declared.Packet.{Packet}
+use Rattle.reading.specs.Reading.{decoded, FromBytes}
 use Rattle.guarantees.specs.Refusals.{DoneOr}
 
 -- A reader accepts the datagram.
-abbrev pub Accepts : Decoded → Type 0
-Accepts d = d.outcome ≡ Done
+abbrev pub Accepts : Result Packet Refusal → Type 0
+Accepts d = (p : Packet) × (d ≡ Ok p)
 
 -- It refuses it.
-abbrev pub Refuses : Decoded → Type 0
-Refuses d = (e : Refusal) × (d.outcome ≡ Refused e)
+abbrev pub Refuses : Result Packet Refusal → Type 0
+Refuses d = (e : Refusal) × (d ≡ Err e)
 
 -- It refuses it, with one of these numbers.
-abbrev pub RefusesWith : List ℕ → Decoded → Type 0
-RefusesWith numbers d = (e : Refusal) × (d.outcome ≡ Refused e) × T (listed (number_of e) numbers)
+abbrev pub RefusesWith : List ℕ → Result Packet Refusal → Type 0
+RefusesWith numbers d = (e : Refusal) × (d ≡ Err e) × T (listed (number_of e) numbers)
 
 -- The message that a reader's packet means, beside an edit store.
-abbrev pub said : List ℕ → List ℕ → Decoded → Message
-said s edits d = meaning (stores s edits) d.packet
+abbrev pub said : List ℕ → List ℕ → Result Packet Refusal → Message
+said s edits d = meaning (stores s edits) (decoded d).value
 
 -- The option's value is longer than 65535 bytes.
 abbrev pub Long : Opt → Type 0
@@ -54,7 +53,7 @@ BareMarker s m = s ≡ layout m ++ (0xFF ∷ [])
 abbrev pub Cause : List ℕ → Message → Type 0
 Cause s m = OtherVersion m ⊎ (Carries s m ⊎ BareMarker s m)
 
-pub record Modes (s edits : List ℕ) (plain strict : Decoded) : Type 0 where
+pub record Modes (s edits : List ℕ) (plain strict : Result Packet Refusal) : Type 0 where
   -- If both accept, the meanings are equal.
   pub both : Accepts plain → Accepts strict → said s edits plain ≡ said s edits strict
   -- If strict alone accepts, some value is longer than 65535 bytes.
@@ -71,7 +70,7 @@ pub record Modes (s edits : List ℕ) (plain strict : Decoded) : Type 0 where
   pub bare_marker : Accepts plain → BareMarker s (said s edits plain) → RefusesWith (7 ∷ 8 ∷ 9 ∷ []) strict
 
 -- What follows.
-pub record Exactly (s edits : List ℕ) (plain strict : Decoded) : Type 0 where
+pub record Exactly (s edits : List ℕ) (plain strict : Result Packet Refusal) : Type 0 where
   -- Where plain accepts, strict accepts exactly when none of the three causes holds.
   pub strict_too : Accepts plain → (Accepts strict ↔ (Cause s (said s edits plain) → ⊥))
   -- Where strict accepts, plain accepts exactly when no value is longer than 65535 bytes.
@@ -82,15 +81,15 @@ pub record Exactly (s edits : List ℕ) (plain strict : Decoded) : Type 0 where
 -- So it is of every datagram, beside any edit store, and of every pair of answers that meet the two readers' promises.
 abbrev pub TwoModes : Type 0
 TwoModes =
-    (s edits : List ℕ) → Bytes s → (plain strict : Decoded) → FromBytes false s plain → FromBytes true s strict
+    (s edits : List ℕ) → Bytes s → (plain strict : Result Packet Refusal) → FromBytes false s plain → FromBytes true s strict
     → Modes s edits plain strict × Exactly s edits plain strict
 
 -- Where both refuse, the numbers needn't be equal: of `0F 00 00 01`, a token of 15 bytes in version 0, plain says 2 and strict 7.
 abbrev pub RefusedApart : Type 0
 RefusedApart =
     let s : List ℕ = 0x0F ∷ 0x00 ∷ 0x00 ∷ 0x01 ∷ [] in
-    (plain strict : Decoded) → FromBytes false s plain → FromBytes true s strict → RefusesWith (2 ∷ []) plain × RefusesWith (7 ∷ []) strict
+    (plain strict : Result Packet Refusal) → FromBytes false s plain → FromBytes true s strict → RefusesWith (2 ∷ []) plain × RefusesWith (7 ∷ []) strict
 
 -- Beside a refused reading stands the new packet.
 abbrev pub NoPacketRead : Type 0
-NoPacketRead = (strict : Bool) (s : List ℕ) (d : Decoded) → FromBytes strict s d → DoneOr d.outcome d.packet new_packet
+NoPacketRead = (strict : Bool) (s : List ℕ) (d : Result Packet Refusal) → FromBytes strict s d → DoneOr d (decoded d) new_packet

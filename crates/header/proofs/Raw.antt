@@ -11,7 +11,9 @@ use Rattle.rfc.specs.Message.{Opt, header_layout}
 use Rattle.ground.proofs.Choice.{on_eq}
 use Rattle.refusal.specs.Answer.{given, Beside}
 use Rattle.refusal.specs.Number.{number_of}
-use Rattle.refusal.proofs.Distinct.{distinct, one_outcome}
+use Rattle.std.specs.Prelude.{Result, Ok, Err}
+use Rattle.refusal.specs.declared.Refusal.{Refusal}
+use Rattle.refusal.proofs.Distinct.{distinct}
 use Rattle.class.specs.Class.{byte_of, class_of}
 use Rattle.class.proofs.Class.{byte_back}
 use Rattle.header.specs.Header.{number_of_type, type_of, new_raw, raw_bytes, raw_in, raw_read, new_header, header_of, token_of, first_byte, raw_of, setting_of}
@@ -19,9 +21,6 @@ use Rattle.header.specs.declared.MessageType.{MessageType}
 use Rattle.header.specs.declared.MessageType.TheVariants.{Confirmable, NonConfirmable, Acknowledgement, Reset}
 use Rattle.header.specs.declared.HeaderRaw.{HeaderRaw}
 use Rattle.header.specs.declared.Header.{Header}
-use Rattle.header.specs.declared.HeaderSet.{HeaderSet}
-use Rattle.header.specs.declared.RawRead.{RawRead}
-use Rattle.header.specs.declared.RawRead.TheVariants.{Raw, Refused}
 
 -- A type's number has two bits.
 pub type_small : (t : MessageType) → number_of_type t < 4
@@ -81,16 +80,20 @@ pub raw_bytes_lem : (raw : HeaderRaw) → raw.ver_type_tkl < 256 → raw.code < 
 raw_bytes_lem raw a b h = (a, (b, (omega arith, (omega arith, tt))))
 
 -- An answer in the words of the promise is that of one value only.
-pub one_raw : (a b : RawRead) → raw_read a ≡ raw_read b → a ≡ b
-one_raw (Raw x) (Raw y) e = cc
-one_raw (Raw x) (Refused k) e = cc
-one_raw (Refused j) (Raw y) e = cc
-one_raw (Refused j) (Refused k) e = let n : number_of j ≡ number_of k = cc in rw (distinct j k n)
+pub one_raw : (a b : Result HeaderRaw Refusal) → raw_read a ≡ raw_read b → a ≡ b
+one_raw (Ok x) (Ok y) e = cc
+one_raw (Ok x) (Err k) e = cc
+one_raw (Err j) (Ok y) e = cc
+one_raw (Err j) (Err k) e = let n : number_of j ≡ number_of k = cc in rw (distinct j k n)
 
-pub one_setting : (a b : HeaderSet) → setting_of a ≡ setting_of b → a ≡ b
-one_setting a b e =
-    let o : a.outcome ≡ b.outcome = one_outcome a.outcome b.outcome (ap (λ (s : Beside Header). s.answer) e) in
-    λ i. record { outcome = o i; header = (e i).value }
+pub one_setting : (h : Header) (a b : Result Header Refusal) → setting_of h a ≡ setting_of h b → a ≡ b
+one_setting h (Ok x) (Ok y) e = ap Ok (ap (λ (s : Beside Header). s.value) e)
+one_setting h (Ok x) (Err k) e = let n = ap (λ (s : Beside Header). s.answer) e in cc
+one_setting h (Err j) (Ok y) e = let n = ap (λ (s : Beside Header). s.answer) e in cc
+one_setting h (Err j) (Err k) e =
+    let w = ap (λ (s : Beside Header). s.answer) e in
+    let n : number_of j ≡ number_of k = cc in
+    rw (distinct j k n)
 
 -- A new header is that of a new raw header.
 pub new_header_lem : header_of new_raw ≡ new_header

@@ -1,8 +1,9 @@
 -- The message header: its four bytes, and its fields (RFC 7252, section 3, figure 7).
-use Rattle.std.specs.Prelude.{ℕ, ◌+◌, ◌*◌, ◌/◌, ◌%◌, List, [], ◌∷◌, length, get_or, ltb, eqb}
+use Rattle.std.specs.Prelude.{ℕ, ◌+◌, ◌*◌, ◌/◌, ◌%◌, List, [], ◌∷◌, length, get_or, ltb, eqb, Result, Ok, Err}
 use Rattle.ground.specs.Choice.{pick}
-use Rattle.refusal.specs.Answer.{Answer, given, refused, onward, outcome, Beside}
+use Rattle.refusal.specs.Answer.{Answer, given, refused, onward, Beside}
 use Rattle.refusal.specs.Number.{number_of}
+use Rattle.refusal.specs.declared.Refusal.{Refusal}
 use Rattle.class.specs.Class.{byte_of, class_of}
 use Rattle.class.specs.declared.MessageClass.{MessageClass}
 use Rattle.class.specs.declared.MessageClass.TheVariants.{Request}
@@ -12,9 +13,6 @@ use Rattle.header.specs.declared.MessageType.{MessageType}
 use Rattle.header.specs.declared.MessageType.TheVariants.{Confirmable, NonConfirmable, Acknowledgement, Reset}
 use Rattle.header.specs.declared.HeaderRaw.{HeaderRaw}
 use Rattle.header.specs.declared.Header.{Header}
-use Rattle.header.specs.declared.HeaderSet.{HeaderSet}
-use Rattle.header.specs.declared.RawRead.{RawRead}
-use Rattle.header.specs.declared.RawRead.TheVariants.{Raw, Refused}
 
 -- The number of a type.
 abbrev pub number_of_type : MessageType → ℕ
@@ -53,9 +51,9 @@ raw_in s =
     (given (record { ver_type_tkl = get_or s 0 0; code = get_or s 1 0; message_id = get_or s 2 0 * 256 + get_or s 3 0 }))
 
 -- The answer of reading a raw header.
-abbrev pub raw_read : RawRead → Answer HeaderRaw
-raw_read (Raw raw) = given raw
-raw_read (Refused e) = refused (number_of e)
+abbrev pub raw_read : Result HeaderRaw Refusal → Answer HeaderRaw
+raw_read (Ok raw) = given raw
+raw_read (Err e) = refused (number_of e)
 
 -- A new header: version 1, confirmable, GET, id 0.
 abbrev pub new_header : Header
@@ -101,9 +99,11 @@ with_id h id = record { version = h.version; message_type = h.message_type; code
 abbrev pub with_code : Header → List ℕ → Answer Header
 with_code h text = onward (code_in text) (λ b. given (with_class h (class_of b)))
 
--- The answer of setting a code from text: the outcome, and a header in every case.
-abbrev pub setting_of : HeaderSet → Beside Header
-setting_of s = record { answer = outcome s.outcome; value = s.header }
+-- The answer of setting the code of a header from text: the outcome, and a header in every case; after a refusal the one that
+-- came.
+abbrev pub setting_of : Header → Result Header Refusal → Beside Header
+setting_of h (Ok set) = record { answer = given tt; value = set }
+setting_of h (Err e) = record { answer = refused (number_of e); value = h }
 
 -- The text of a header's code.
 abbrev pub code_output : Header → List ℕ

@@ -6,8 +6,7 @@ ghost use Rattle.refusal.specs.Answer.{written, fitted, after, beside};
 ghost use Rattle.header.specs.Header.{number_of_type, type_of, new_raw, version_of, token_of, raw_bytes, raw_in, raw_read, new_header, header_of, raw_of, with_version, with_type, with_class, with_id, with_code, setting_of, code_output};
 
 use class::{MessageClass, RequestType};
-use code_text::Code;
-use refusal::{Outcome, Refusal, Written};
+use refusal::Refusal;
 
 // The raw byte header representation, useful for encoding/decoding directly.
 #[derive(Clone, Copy)]
@@ -15,13 +14,6 @@ pub struct HeaderRaw {
     pub ver_type_tkl: u8,
     pub code: u8,
     pub message_id: u16,
-}
-
-// What reading a raw header answers.
-#[derive(Clone, Copy)]
-pub enum RawRead {
-    Raw(HeaderRaw),
-    Refused(Refusal),
 }
 
 impl HeaderRaw {
@@ -51,7 +43,7 @@ impl HeaderRaw {
     }
 
     // Writes the header to the start of the given buffer.
-    pub fn serialize_into(self, out: &mut [u8]) -> Written
+    pub fn serialize_into(self, out: &mut [u8]) -> Result<usize, Refusal>
         ensures result_value { written result ≡ fitted (length out.old) (raw_bytes self) }
         ensures out_after { out.new ≡ after (fitted (length out.old) (raw_bytes self)) 0 (raw_bytes self) out.old }
     {
@@ -65,13 +57,13 @@ impl HeaderRaw {
     }
 
     // Reads the header at the start of the given bytes.
-    pub fn try_from(buf: &[u8]) -> RawRead
+    pub fn try_from(buf: &[u8]) -> Result<HeaderRaw, Refusal>
         ensures { raw_read result ≡ raw_in buf.now }
     {
         if buf.len() < 4 {
-            return RawRead::Refused(Refusal::InvalidHeader);
+            return Err(Refusal::InvalidHeader);
         }
-        RawRead::Raw(HeaderRaw {
+        Ok(HeaderRaw {
             ver_type_tkl: buf[0],
             code: buf[1],
             message_id: buf[2] as u16 * 256 + buf[3] as u16,
@@ -80,18 +72,18 @@ impl HeaderRaw {
 }
 
 // Writes bytes to the start of the given buffer, where there is room for all of them.
-fn put_front(out: &mut [u8], bytes: &[u8]) -> Written
+fn put_front(out: &mut [u8], bytes: &[u8]) -> Result<usize, Refusal>
     ensures result_value { written result ≡ fitted (length out.old) bytes.now }
     ensures out_after { out.new ≡ after (fitted (length out.old) bytes.now) 0 bytes.now out.old }
 {
     if out.len() < bytes.len() {
-        return Written::Refused(Refusal::NoRoom);
+        return Err(Refusal::NoRoom);
     }
-    Written::Length(placing::put_bytes(out, 0, bytes))
+    Ok(placing::put_bytes(out, 0, bytes))
 }
 
 // The message types.
-#[derive(Clone, Copy)]
+#[derive(Clone, Copy, Debug, PartialEq, Eq)]
 pub enum MessageType {
     Confirmable,
     NonConfirmable,
@@ -132,13 +124,6 @@ pub struct Header {
     pub message_type: MessageType,
     pub code: MessageClass,
     pub message_id: u16,
-}
-
-// What setting a code from text answers: after a refusal the header is as it came.
-#[derive(Clone, Copy)]
-pub struct HeaderSet {
-    pub outcome: Outcome,
-    pub header: Header,
 }
 
 impl Header {
@@ -252,23 +237,15 @@ impl Header {
     }
 
     // Sets the message code from text, as "2.05".
-    pub fn set_code(self, code: &[u8]) -> HeaderSet
-        ensures { setting_of result ≡ beside self (with_code self code.now) }
+    pub fn set_code(self, code: &[u8]) -> Result<Header, Refusal>
+        ensures { setting_of self result ≡ beside self (with_code self code.now) }
     {
-        match code_text::code_in(code) {
-            Code::Byte(b) => HeaderSet {
-                outcome: Outcome::Done,
-                header: self.set_class(MessageClass::from_byte(b)),
-            },
-            Code::Refused(e) => HeaderSet {
-                outcome: Outcome::Refused(e),
-                header: self,
-            },
-        }
+        let byte = code_text::code_in(code)?;
+        Ok(self.set_class(MessageClass::from_byte(byte)))
     }
 
     // Returns the message code as text: writes it to the start of the given buffer.
-    pub fn get_code(self, out: &mut [u8]) -> Written
+    pub fn get_code(self, out: &mut [u8]) -> Result<usize, Refusal>
         ensures result_value { written result ≡ fitted (length out.old) (code_output self) }
         ensures out_after { out.new ≡ after (fitted (length out.old) (code_output self)) 0 (code_output self) out.old }
     {

@@ -1,124 +1,102 @@
 // Requests on headers, raw and not.
-use class_words::header_at;
-use header::{Header, HeaderRaw, RawRead};
-use refusal::Outcome;
-use telling::{HEAD, HEADER, HEADER_RAW, REFUSED, Told};
-use words::{finished, low8, low16, number_at};
+use class_words::{read_header, write_class_and_id, write_header, write_version_and_type};
+use header::{Header, HeaderRaw};
+use output::Page;
+use telling::{write_refused, write_written};
+use words::Line;
 
 // header-read HEX
-pub fn header_read(bytes: &[u8]) -> Told {
+pub fn header_read(line: &mut Line, store: &mut [u8], page: &mut Page) -> Option<()> {
+    let bytes = line.stored(store)?;
+    line.finished()?;
     match HeaderRaw::try_from(bytes) {
-        RawRead::Refused(why) => Told::refused(why),
-        RawRead::Raw(raw) => tell_read(raw),
+        Ok(raw) => write_read(page, raw),
+        Err(why) => write_refused(page, why),
     }
+    Some(())
 }
 
-fn tell_read(raw: HeaderRaw) -> Told {
+// A header, with the token's length before its code byte.
+fn write_read(page: &mut Page, raw: HeaderRaw) {
     let header = Header::from_raw(raw);
-    let message_type = header.get_type();
-    let class = header.get_class();
-    let numbers = [
-        header.get_version() as u64,
-        message_type.to_number() as u64,
-        (raw.ver_type_tkl % 16) as u64,
-        class.to_byte() as u64,
-    ];
-    Told::message(HEADER, 4, numbers, class, header.get_message_id())
+    page.text(b"header");
+    write_version_and_type(page, header);
+    page.number(b" ", raw.token_length() as u64);
+    page.number(b" ", header.code.to_byte() as u64);
+    write_class_and_id(page, header);
 }
 
 // header-raw HEX
-pub fn header_raw(bytes: &[u8]) -> Told {
+pub fn header_raw(line: &mut Line, store: &mut [u8], page: &mut Page) -> Option<()> {
+    let bytes = line.stored(store)?;
+    line.finished()?;
     match HeaderRaw::try_from(bytes) {
-        RawRead::Refused(why) => Told::refused(why),
-        RawRead::Raw(raw) => tell_raw(raw),
+        Ok(raw) => write_raw(page, raw),
+        Err(why) => write_refused(page, why),
     }
+    Some(())
 }
 
-fn tell_raw(raw: HeaderRaw) -> Told {
-    Told::three(
-        HEADER_RAW,
-        raw.ver_type_tkl as u64,
-        raw.code as u64,
-        raw.message_id as u64,
-    )
+fn write_raw(page: &mut Page, raw: HeaderRaw) {
+    page.number(b"header-raw ", raw.ver_type_tkl as u64);
+    page.number(b" ", raw.code as u64);
+    page.number(b" ", raw.message_id as u64);
 }
 
-// header-code HEX: the code of a new header is set from a text.
-pub fn header_code(bytes: &[u8]) -> Told {
-    let set = Header::new().set_code(bytes);
-    let outcome = set.outcome;
-    let header = set.header;
-    match outcome {
-        Outcome::Done => tell_head(header),
-        Outcome::Refused(why) => tell_kept(why.number(), header),
+// header-code HEX: the code of a new header is set from a text. A refusal leaves that header as it is.
+pub fn header_code(line: &mut Line, store: &mut [u8], page: &mut Page) -> Option<()> {
+    let code = line.stored(store)?;
+    line.finished()?;
+    let new = Header::new();
+    match new.set_code(code) {
+        Ok(header) => write_head(page, header),
+        Err(why) => {
+            write_refused(page, why);
+            write_header(page, new);
+        }
     }
+    Some(())
 }
 
-fn tell_head(header: Header) -> Told {
-    let message_type = header.get_type();
-    let class = header.get_class();
-    let numbers = [
-        header.get_version() as u64,
-        message_type.to_number() as u64,
-        class.to_byte() as u64,
-        0,
-    ];
-    Told::message(HEAD, 3, numbers, class, header.get_message_id())
-}
-
-// A refusal, with the header that it left.
-fn tell_kept(why: u8, header: Header) -> Told {
-    let message_type = header.get_type();
-    let class = header.get_class();
-    let numbers = [
-        why as u64,
-        header.get_version() as u64,
-        message_type.to_number() as u64,
-        class.to_byte() as u64,
-    ];
-    Told::message(REFUSED, 4, numbers, class, header.get_message_id())
+fn write_head(page: &mut Page, header: Header) {
+    page.text(b"head");
+    write_header(page, header);
 }
 
 // header-new
-pub fn header_new(line: &[u8], at: usize) -> Told {
-    if !finished(line, at) {
-        return Told::no_request();
-    }
-    tell_head(Header::new())
+pub fn header_new(line: &mut Line, page: &mut Page) -> Option<()> {
+    line.finished()?;
+    write_head(page, Header::new());
+    Some(())
 }
 
 // header-raw-new
-pub fn header_raw_new(line: &[u8], at: usize) -> Told {
-    if !finished(line, at) {
-        return Told::no_request();
-    }
-    tell_raw(HeaderRaw::new())
+pub fn header_raw_new(line: &mut Line, page: &mut Page) -> Option<()> {
+    line.finished()?;
+    write_raw(page, HeaderRaw::new());
+    Some(())
 }
 
 // header-raw-write ROOM BYTE BYTE ID
-pub fn header_raw_write(line: &[u8], at: usize, room: &mut [u8]) -> Told {
-    let first = number_at(line, at, b' ', 255);
-    let code = number_at(line, first.next, b' ', 255);
-    let id = number_at(line, code.next, b' ', 65535);
-    if !finished(line, id.next) {
-        return Told::no_request();
-    }
+pub fn header_raw_write(line: &mut Line, room: &mut [u8], page: &mut Page) -> Option<()> {
+    let room = line.room(room)?;
     let raw = HeaderRaw {
-        ver_type_tkl: low8(first.value),
-        code: low8(code.value),
-        message_id: low16(id.value),
+        ver_type_tkl: line.number(b' ')?,
+        code: line.number(b' ')?,
+        message_id: line.number(b' ')?,
     };
-    Told::written(raw.serialize_into(room))
+    line.finished()?;
+    write_written(page, raw.serialize_into(room), room);
+    Some(())
 }
 
 // header-write ROOM TOKENLENGTH VERSION TYPE CLASS ID
-pub fn header_write(line: &[u8], at: usize, room: &mut [u8]) -> Told {
-    let length = number_at(line, at, b' ', 255);
-    let head = header_at(line, length.next);
-    let header = head.header;
-    if !finished(line, head.next) {
-        return Told::no_request();
-    }
-    let raw = header.to_raw(low8(length.value));
-    Told::written(raw.serialize_into(room))
+pub fn header_write(line: &mut Line, room: &mut [u8], page: &mut Page) -> Option<()> {
+    let room = line.room(room)?;
+    let token_length = line.number(b' ')?;
+    let header = read_header(line)?;
+    line.finished()?;
+    let raw = header.to_raw(token_length);
+    write_written(page, raw.serialize_into(room), room);
+    Some(())
 }

@@ -12,8 +12,9 @@ use Rattle.refusal.specs.declared.Refusal.TheVariants.{NoRoom, ClockBack}
 use Rattle.placing.specs.Put.{Puts}
 use Rattle.placing.proofs.Puts.{puts_whole}
 use Rattle.hearing.specs.declared.Verdict.TheVariants.{New, Duplicate, Passed}
-use Rattle.hearing.specs.declared.Heard.{Heard}
-use Rattle.hearing.specs.declared.Heard.TheVariants.{Is, Refused}
+use Rattle.std.specs.Prelude.{Result, Ok, Err}
+use Rattle.refusal.specs.declared.Refusal.{Refusal}
+use Rattle.hearing.specs.declared.Verdict.{Verdict as Word}
 use Rattle.hearing.specs.Table.{entries, lowest, judging}
 use Rattle.hearing.specs.Bytes.{places_from, places, entry_bytes}
 use Rattle.hearing.specs.Hearing.{hearing, leaving, heard_of, Hears}
@@ -26,42 +27,42 @@ module _ (before : ℕ) (s : List ℕ) (m : Arrival) where
   sixty_four = refl
 
   -- From an answer, and what is left by it, to the promise.
-  settled : (r : Heard) (left : List ℕ) → hearing before s m ≡ heard_of r → left ≡ leaving (heard_of r) m s → Hears before m s r left
+  settled : (r : Result Word Refusal) (left : List ℕ) → hearing before s m ≡ heard_of r → left ≡ leaving (heard_of r) m s → Hears before m s r left
   settled r left e h = record { answer = sym e; table = rw e h }
 
-  pub is_back : m.time < before → Hears before m s (Refused ClockBack) s
+  pub is_back : m.time < before → Hears before m s (Err ClockBack) s
   unfolding hearing
-  is_back h = settled (Refused ClockBack) s (rw (lt-ltb m.time before h)) refl
+  is_back h = settled (Err ClockBack) s (rw (lt-ltb m.time before h)) refl
 
   module _ (h : before ≤ m.time) where
-    pub is_short : length s < 1600 → Hears before m s (Refused NoRoom) s
+    pub is_short : length s < 1600 → Hears before m s (Err NoRoom) s
     unfolding hearing
-    is_short l = settled (Refused NoRoom) s (rw (le-ltb m.time before h, lt-ltb (length s) 1600 l)) refl
+    is_short l = settled (Err NoRoom) s (rw (le-ltb m.time before h, lt-ltb (length s) 1600 l)) refl
 
     module _ (l : 1600 ≤ length s) where
       judged : hearing before s m ≡ judging (places s) m
       unfolding hearing
       judged = rw (le-ltb m.time before h, le-ltb (length s) 1600 l)
 
-      pub is_passed : 1 < m.type → Hears before m s (Is Passed) s
+      pub is_passed : 1 < m.type → Hears before m s (Ok Passed) s
       unfolding judging
-      is_passed k = settled (Is Passed) s (judged ∙ rw (lt-ltb 1 m.type k)) refl
+      is_passed k = settled (Ok Passed) s (judged ∙ rw (lt-ltb 1 m.type k)) refl
 
       module _ (k : m.type ≤ 1) where
-        pub is_duplicate : stands m (entries (places s)) ≡ true → Hears before m s (Is Duplicate) s
+        pub is_duplicate : stands m (entries (places s)) ≡ true → Hears before m s (Ok Duplicate) s
         unfolding judging
-        is_duplicate e = settled (Is Duplicate) s (judged ∙ rw (le-ltb 1 m.type k, e)) refl
+        is_duplicate e = settled (Ok Duplicate) s (judged ∙ rw (le-ltb 1 m.type k, e)) refl
 
-        module _ (e : stands m (entries (places s)) ≡ false) (at : ℕ) (i : at ≡ lowest m.time (places s) * 25) where
-          pub is_full : at ≡ 1600 → Hears before m s (Refused NoRoom) s
+        module _ (e : stands m (entries (places s)) ≡ false) where
+          pub is_full : 1600 ≡ lowest m.time (places s) * 25 → Hears before m s (Err NoRoom) s
           unfolding judging
           is_full f =
               let none = le-ltb (lowest m.time (places s)) (length (places s)) (omega (arith, sixty_four)) in
-              settled (Refused NoRoom) s (judged ∙ rw (le-ltb 1 m.type k, e, none)) refl
+              settled (Err NoRoom) s (judged ∙ rw (le-ltb 1 m.type k, e, none)) refl
 
-          pub is_new : at ≤ 1600 → (at ≡ 1600 → ⊥) → length m.peer ≡ 18 → (r : ℕ) (left : List ℕ) → Puts s at (entry_bytes m) r left → Hears before m s (Is New) left
+          pub is_new : (at : ℕ) → at ≡ lowest m.time (places s) * 25 → at < 1600 → length m.peer ≡ 18 → (r : ℕ) (left : List ℕ) → Puts s at (entry_bytes m) r left → Hears before m s (Ok New) left
           unfolding judging
-          is_new o f p r left w =
+          is_new at i o p r left w =
               let some = lt-ltb (lowest m.time (places s)) (length (places s)) (omega (arith, sixty_four)) in
               let put = (puts_whole w (omega (arith, entry_size m p))).out in
-              settled (Is New) left (judged ∙ rw (le-ltb 1 m.type k, e, some)) (put ∙ ap (λ (n : ℕ). sets s n (entry_bytes m)) i)
+              settled (Ok New) left (judged ∙ rw (le-ltb 1 m.type k, e, some)) (put ∙ ap (λ (n : ℕ). sets s n (entry_bytes m)) i)

@@ -11,7 +11,7 @@ use Rattle.rfc.specs.Duplicates.{count}
 use Rattle.hearing.specs.Table.{entries}
 use Rattle.hearing.specs.Bytes.{table_size, places_from}
 use Rattle.refusal.specs.declared.Refusal.TheVariants.{NoRoom}
-use Rattle.refusal.specs.declared.Outcome.TheVariants.{Done, Refused}
+use Rattle.std.specs.Prelude.{Ok, Err}
 use Rattle.placing.specs.Put.{Puts}
 use Rattle.placing.proofs.Puts.{puts_whole}
 use Rattle.hearing.specs.Hearing.{Clears}
@@ -44,13 +44,13 @@ pub cleared_holds : (s : List ℕ) → table_size ≤ length s → Holds 0 (sets
 cleared_holds s l = cleared_by s table_size refl l
 
 -- What clearing shows when it returns.
-pub not_cleared : (old : List ℕ) → length old < table_size → Clears old (Refused NoRoom) old
+pub not_cleared : (old : List ℕ) → length old < table_size → Clears old (Err NoRoom) old
 not_cleared old h = let t = lt-ltb (length old) table_size h in record { answer = rw t; table = rw t }
 
 all_put : (old : List ℕ) (n r : ℕ) (left : List ℕ) → n ≤ length old → Puts old 0 (replicate n 0) r left → left ≡ sets old 0 (replicate n 0)
 all_put old n r left h p = (puts_whole p (rw length-replicate (omega arith))).out
 
-pub is_cleared : (old : List ℕ) (r : ℕ) (left : List ℕ) → table_size ≤ length old → Puts old 0 (replicate table_size 0) r left → Clears old Done left
+pub is_cleared : (old : List ℕ) (r : ℕ) (left : List ℕ) → table_size ≤ length old → Puts old 0 (replicate table_size 0) r left → Clears old (Ok tt) left
 is_cleared old r left h p =
     let t = le-ltb (length old) table_size h in
     record { answer = rw t; table = rw t (all_put old table_size r left h p) }

@@ -10,8 +10,9 @@ use Rattle.ground.proofs.Choice.{by_lt}
 use Rattle.rfc.specs.Duplicates.{Arrival, Verdict}
 use Rattle.refusal.specs.Answer.{Answer, given, refused}
 use Rattle.refusal.specs.declared.Refusal.TheVariants.{NoRoom, ClockBack}
-use Rattle.hearing.specs.declared.Heard.{Heard}
-use Rattle.hearing.specs.declared.Heard.TheVariants.{Refused}
+use Rattle.std.specs.Prelude.{Result, Err}
+use Rattle.refusal.specs.declared.Refusal.{Refusal}
+use Rattle.hearing.specs.declared.Verdict.{Verdict as Word}
 use Rattle.hearing.specs.Hearing.{leaving, heard_of, Hears}
 use Rattle.hearing.specs.Calls.{letter, calling, Called, Calls, further, calls_from, Ran}
 use Rattle.hearing.proofs.Turns.{with_room, without_room, back_first, listed}
@@ -19,16 +20,16 @@ use Rattle.hearing.proofs.Left.{length_left}
 
 -- With no place left in the listing the table isn't asked; else it is the call itself.
 module _ (room before : ℕ) (m : Arrival) (s : List ℕ) where
-  settled : (r : Heard) (left : List ℕ) → calling room before s m ≡ heard_of r → left ≡ leaving (heard_of r) m s → Called room before m s r left
+  settled : (r : Result Word Refusal) (left : List ℕ) → calling room before s m ≡ heard_of r → left ≡ leaving (heard_of r) m s → Called room before m s r left
   settled r left e h = record { answer = sym e; table = rw e h }
 
-  pub called_back : m.time < before → Called room before m s (Refused ClockBack) s
-  called_back h = settled (Refused ClockBack) s (back_first room before s m h) refl
+  pub called_back : m.time < before → Called room before m s (Err ClockBack) s
+  called_back h = settled (Err ClockBack) s (back_first room before s m h) refl
 
-  pub called_full : room ≡ 0 → before ≤ m.time → Called room before m s (Refused NoRoom) s
-  called_full z h = settled (Refused NoRoom) s (without_room room before s m z h) refl
+  pub called_full : room ≡ 0 → before ≤ m.time → Called room before m s (Err NoRoom) s
+  called_full z h = settled (Err NoRoom) s (without_room room before s m z h) refl
 
-  pub called_heard : (room ≡ 0 → ⊥) → (r : Heard) (left : List ℕ) → Hears before m s r left → Called room before m s r left
+  pub called_heard : (room ≡ 0 → ⊥) → (r : Result Word Refusal) (left : List ℕ) → Hears before m s r left → Called room before m s r left
   called_heard z r left h =
       let same = with_room room before s m (by_lt 0 room (λ (k : 0 < room). k) (λ k. absurd (z (omega arith)))) in
       record { answer = rw same h.answer; table = rw same h.table }
@@ -72,7 +73,7 @@ module _ (c : Calls) (old table listing : List ℕ) (before count : ℕ) (left :
   unfolding calls_from
   finish e = ran (given tt) (rw e at g.whole)
 
-  module _ (m : Arrival) (ms : List Arrival) (e : left ≡ m ∷ ms) (r : Heard) (next : List ℕ) (h : Called (length listing - count) before m table r next) where
+  module _ (m : Arrival) (ms : List Arrival) (e : left ≡ m ∷ ms) (r : Result Word Refusal) (next : List ℕ) (h : Called (length listing - count) before m table r next) where
     answered : calling (length old - count) before table m ≡ heard_of r
     answered = sym (rw same_size at h.answer)
 

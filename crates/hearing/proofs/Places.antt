@@ -2,34 +2,20 @@
 use Prim.Native.Nat.{ℕ, suc, ◌+◌, ◌-◌, ◌*◌, ◌<◌, ◌≤◌}
 use mathlib.Core.Path.{◌≡◌, refl, sym, ap, ◌∙◌}
 use mathlib.Core.Bool.{Bool, true, false, not}
-use mathlib.Core.List.{List, [], ◌∷◌, ◌++◌}
-use native.Mathlib.Numerals.{add-one}
+use mathlib.Core.List.{List, ◌∷◌}
 use native.Mathlib.Omega.{arith}
 use lib.Dec.{eqb, ltb, leb}
-use lib.ListN.{length, take, drop, get_or}
-use lib.Seq.{drop-cons, drop-drop, take-add}
+use lib.ListN.{get_or}
 use borrow.Author.Tests.{lt-ltb, le-ltb, le-leb, lt-leb, eq-eqb, ne_eqb, not-true, not-false}
 use Rattle.ground.specs.Choice.{pick, both, either}
 use Rattle.ground.specs.Part.{part}
 use Rattle.ground.proofs.Choice.{by_lt, by_eq}
 use Rattle.rfc.specs.Uint.{number}
 use Rattle.rfc.specs.Duplicates.{Arrival, unexpired, alike, same, stands}
-use Rattle.rfc.proofs.Uint.{number_append}
 use Rattle.hearing.specs.Table.{Place, unused, holds, entries, free, lowest}
 use Rattle.hearing.specs.Bytes.{entry_at, place_at, places_from, places}
+use Rattle.std.specs.Prelude.{Some, None}
 use Rattle.hearing.specs.Steps.{stands_at, Lowest}
-
--- The number of two bytes, and of four.
-two_are : (s : List ℕ) (i : ℕ) → i + 2 ≤ length s → part s i 2 ≡ get_or s i 0 ∷ get_or s (i + 1) 0 ∷ []
-two_are s i h = rw (add-one i, drop-cons s i 0 (omega arith), drop-cons s (suc i) 0 (omega arith))
-
-pub number_two : (s : List ℕ) (i : ℕ) → i + 2 ≤ length s → get_or s i 0 * 256 + get_or s (i + 1) 0 ≡ number (part s i 2)
-number_two s i h = rw (two_are s i h) (omega arith)
-
-pub number_four : (s : List ℕ) (i : ℕ) → i + 4 ≤ length s → number (part s i 2) * 65536 + number (part s (i + 2) 2) ≡ number (part s i 4)
-number_four s i h =
-    let all : part s i 4 ≡ part s i 2 ++ part s (i + 2) 2 = take-add 2 2 (drop i s) ∙ ap (λ (l : List ℕ). part s i 2 ++ take 2 l) (drop-drop 2 i s) in
-    rw (all, number_append 0 (part s i 2) (part s (i + 2) 2), two_are s (i + 2) (omega arith)) (omega arith)
 
 not_less : (a b : ℕ) → leb b a ≡ not (ltb a b)
 not_less a b = by_lt a b (λ h. lt-leb b a h ∙ sym (ap not (lt-ltb a b h))) (λ h. le-leb b a h ∙ sym (ap not (le-ltb a b h)))
@@ -151,11 +137,11 @@ module _ (now : ℕ) (s : List ℕ) (at : ℕ) (w : Left (λ (qs : List Place). 
   unfolding places_from lowest
   low_first n e = rw e at w.is
 
-  pub low_found : at < 1600 → true ≡ free now (place_at s at) → Lowest now s at
+  pub low_found : at < 1600 → true ≡ free now (place_at s at) → Lowest now s (Some at)
   low_found h e =
       let n : w.left ≡ suc (w.left - 1) = omega (arith, w.sum) in
       let f = rw (sym e) at (low_first (w.left - 1) n) in
-      record { is = omega arith; most = omega arith }
+      (omega arith, h)
 
   pub low_turn : at < 1600 → false ≡ free now (place_at s at) → Left (λ (qs : List Place). (at + 25) + lowest now qs * 25) s (at + 25) (lowest now (places s) * 25)
   low_turn h e =
@@ -163,9 +149,9 @@ module _ (now : ℕ) (s : List ℕ) (at : ℕ) (w : Left (λ (qs : List Place). 
       let f = rw (sym e) at (low_first (w.left - 1) n) in
       record { left = w.left - 1; sum = omega (arith, w.sum); is = omega arith }
 
-  pub low_end : 1600 ≤ at → Lowest now s at
+  pub low_end : 1600 ≤ at → Lowest now s None
   unfolding places_from lowest
   low_end h =
       let n : w.left ≡ 0 = omega (arith, w.sum) in
       let f = rw n at w.is in
-      record { is = omega arith; most = omega (arith, w.sum) }
+      omega (arith, w.sum)

@@ -1,10 +1,11 @@
 -- Calls in turn over one table, with the listing that they make.
-use Rattle.std.specs.Prelude.{ℕ, ◌-◌, ◌≡◌, List, [], ◌∷◌, eqb, ltb, length}
+use Rattle.std.specs.Prelude.{ℕ, ◌-◌, ◌≡◌, List, [], ◌∷◌, eqb, ltb, length, Result}
 use Rattle.std.proofs.lemmas.List.Edits.{sets}
 use Rattle.ground.specs.Choice.{pick}
 use Rattle.rfc.specs.Duplicates.{Arrival, Verdict, new, duplicate, passed}
 use Rattle.refusal.specs.Answer.{Answer, given, refused}
-use Rattle.hearing.specs.declared.Heard.{Heard}
+use Rattle.refusal.specs.declared.Refusal.{Refusal}
+use Rattle.hearing.specs.declared.Verdict.{Verdict as Word}
 use Rattle.hearing.specs.Hearing.{Fits, hearing, leaving, heard_of}
 
 -- The byte of a verdict in a listing.
@@ -20,7 +21,7 @@ calling room before s m =
     pick (ltb m.time before) (refused 21) (pick (eqb room 0) (refused 12) (hearing before s m))
 
 -- The promise of such a call, for its answer and for the table.
-pub record Called (room before : ℕ) (m : Arrival) (old : List ℕ) (r : Heard) (left : List ℕ) : Type 0 where
+pub record Called (room before : ℕ) (m : Arrival) (old : List ℕ) (r : Result Word Refusal) (left : List ℕ) : Type 0 where
   pub answer : heard_of r ≡ calling room before old m
   pub table : left ≡ leaving (calling room before old m) m old
 

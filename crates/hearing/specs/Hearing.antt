@@ -1,15 +1,13 @@
 -- One message over a lent table: what the call answers, what it leaves, and how a table is cleared.
-use Rattle.std.specs.Prelude.{ℕ, ◌*◌, ◌<◌, ◌≡◌, List, ltb, length, replicate}
+use Rattle.std.specs.Prelude.{ℕ, ◌*◌, ◌<◌, ◌≡◌, List, ltb, length, replicate, Result, Ok, Err}
 use Rattle.std.proofs.lemmas.List.Edits.{sets}
 use Rattle.ground.specs.Choice.{pick}
 use Rattle.rfc.specs.Duplicates.{Arrival, Verdict, new, duplicate, passed}
 use Rattle.refusal.specs.Answer.{Answer, given, refused, outcome, after}
 use Rattle.refusal.specs.Number.{number_of}
-use Rattle.refusal.specs.declared.Outcome.{Outcome}
+use Rattle.refusal.specs.declared.Refusal.{Refusal}
 use Rattle.hearing.specs.declared.Verdict.{Verdict as Word}
 use Rattle.hearing.specs.declared.Verdict.TheVariants.{New, Duplicate, Passed}
-use Rattle.hearing.specs.declared.Heard.{Heard}
-use Rattle.hearing.specs.declared.Heard.TheVariants.{Is, Refused}
 use Rattle.hearing.specs.Table.{lowest, judging}
 use Rattle.hearing.specs.Bytes.{table_size, places, entry_bytes}
 
@@ -44,12 +42,12 @@ verdict_of New = new
 verdict_of Duplicate = duplicate
 verdict_of Passed = passed
 
-abbrev pub heard_of : Heard → Answer Verdict
-heard_of (Is v) = given (verdict_of v)
-heard_of (Refused e) = refused (number_of e)
+abbrev pub heard_of : Result Word Refusal → Answer Verdict
+heard_of (Ok v) = given (verdict_of v)
+heard_of (Err e) = refused (number_of e)
 
 -- The promise of a call, for its answer and for the table.
-pub record Hears (before : ℕ) (m : Arrival) (old : List ℕ) (r : Heard) (left : List ℕ) : Type 0 where
+pub record Hears (before : ℕ) (m : Arrival) (old : List ℕ) (r : Result Word Refusal) (left : List ℕ) : Type 0 where
   pub answer : heard_of r ≡ hearing before old m
   pub table : left ≡ leaving (hearing before old m) m old
 
@@ -58,6 +56,6 @@ abbrev pub clearing : ℕ → Answer (Unit {0})
 clearing size = pick (ltb size table_size) (refused 12) (given tt)
 
 -- The promise of clearing: the first 1,600 bytes are 0, so that every place is unused, and all after them is as it was.
-pub record Clears (old : List ℕ) (r : Outcome) (left : List ℕ) : Type 0 where
+pub record Clears (old : List ℕ) (r : Result (Unit {0}) Refusal) (left : List ℕ) : Type 0 where
   pub answer : outcome r ≡ clearing (length old)
   pub table : left ≡ after (clearing (length old)) 0 (replicate table_size 0) old

@@ -1,6 +1,6 @@
 -- Laws of hexadecimal digits in a text: what each is worth, and the bytes that pairs of them stand for.
 use Prim.Native.Nat.{ℕ, zero, suc, ◌+◌, ◌-◌, ◌*◌, ◌/◌, ◌%◌, ◌<◌, ◌≤◌}
-use mathlib.Core.Path.{◌≡◌, refl}
+use mathlib.Core.Path.{◌≡◌, refl, sym}
 use mathlib.Core.Bool.{true, false}
 use mathlib.Core.List.{List, [], ◌∷◌}
 use native.Mathlib.Numerals.{add-one}
@@ -9,8 +9,9 @@ use lib.Dec.{ltb, eqb}
 use lib.ListN.{length, drop, get_or, length-drop, drop_of_length-le}
 use lib.Seq.{drop-cons}
 use borrow.Author.Tests.{le-leb, lt-leb, lt-ltb, le-ltb, ltb-true}
-use Rattle.ground.proofs.Choice.{both_true}
-use Rattle.hexadecimal.specs.Hex.{hex_digits, hex, digit_of, all_digits, is_hex, pairs}
+use Rattle.ground.proofs.Choice.{both_true, on_lt}
+use Rattle.std.specs.Prelude.{Option, Some, None}
+use Rattle.hexadecimal.specs.Hex.{hex_digits, hex, digit_of, digit_read, all_digits, is_hex, pairs}
 
 -- A decimal digit, a letter, and any other byte.
 pub of_decimal : (b : ℕ) → 48 ≤ b → b ≤ 57 → digit_of b ≡ b - 48
@@ -43,6 +44,16 @@ of_above b h =
     let high : 57 < b = omega arith in
     let letter : 97 ≤ b = omega arith in
     rw (le-leb 48 b low, lt-leb b 57 high, le-leb 97 b letter, lt-leb b 102 h)
+
+-- What is read of a digit, and of what is none.
+pub some_digit : {d n : ℕ} → d ≡ n → d < 16 → Some d ≡ digit_read n
+some_digit {d} e h = rw (sym e, lt-ltb d 16 h) refl
+
+pub no_digit : {n : ℕ} → 16 ≡ n → None ≡ digit_read n
+no_digit e = rw (sym e) refl
+
+pub was_digit : (n : ℕ) {d : ℕ} → Some d ≡ digit_read n → (d ≡ n) × (n < 16)
+was_digit n {d} = on_lt (λ (o : Option ℕ). Some d ≡ o → (d ≡ n) × (n < 16)) n 16 (λ h e. let z : d ≡ n = cc in (z, h)) (λ h e. cc)
 
 -- A hexadecimal text is digits alone, and each of them is one.
 pub hex_digits_lem : (s : List ℕ) → is_hex s ≡ true → all_digits s ≡ true

@@ -1,5 +1,5 @@
 -- Bytes in hexadecimal as ASCII bytes: the digits of bytes, and the bytes of digits.
-use Rattle.std.specs.Prelude.{ℕ, ◌+◌, ◌-◌, ◌*◌, ◌/◌, ◌%◌, Bool, true, List, [], ◌∷◌, ◌++◌, length, ltb, eqb}
+use Rattle.std.specs.Prelude.{ℕ, ◌+◌, ◌-◌, ◌*◌, ◌/◌, ◌%◌, Bool, true, List, [], ◌∷◌, ◌++◌, length, ltb, eqb, Option, Some, None}
 use Rattle.ground.specs.Choice.{pick, both, within}
 use Rattle.refusal.specs.Answer.{Answer, given, refused, onward, room_from}
 
@@ -24,6 +24,10 @@ hex (b ∷ bs) = hex_digits (b ∷ bs)
 -- The value of a digit, `0` to `9` and `a` to `f`; 16 for any other byte.
 unfoldable pub digit_of : ℕ → ℕ
 digit_of b = pick (within 48 57 b) (b - 48) (pick (within 97 102 b) (b - 97 + 10) 16)
+
+-- A digit's value, where there is one: it is below 16.
+abbrev pub digit_read : ℕ → Option ℕ
+digit_read d = pick (ltb d 16) (Some d) None
 
 -- Each byte is a digit.
 abbrev pub all_digits : List ℕ → Bool

@@ -4,9 +4,9 @@
 ghost use Rattle.std.specs.Prelude.{◌≡◌, true, ◌<◌, length};
 ghost use Rattle.refusal.specs.Answer.{written, after};
 ghost use Rattle.placing.specs.Put.{Puts};
-ghost use Rattle.hexadecimal.specs.Hex.{hex_digit, hex_byte, hex, digit_of, all_digits, is_hex, pairs, unhex_into};
+ghost use Rattle.hexadecimal.specs.Hex.{hex_digit, hex_byte, hex, digit_of, digit_read, all_digits, is_hex, pairs, unhex_into};
 
-use refusal::{Refusal, Written};
+use refusal::Refusal;
 
 // A hexadecimal digit, in lower case.
 fn hex_digit(digit: u8) -> u8
@@ -35,22 +35,20 @@ pub fn put_hex(out: &mut [u8], at: usize, bytes: &[u8]) -> usize
         return placing::put_byte(out, at, b'-');
     }
     let mut next = at;
-    let mut i = 0;
-    while i < bytes.len() {
-        next = put_hex_byte(out, next, bytes[i]);
-        i = i + 1;
+    for byte in bytes {
+        next = put_hex_byte(out, next, *byte);
     }
     next
 }
 
-// The value of a hexadecimal digit, in lower case; 16 for any other byte.
-pub fn hex_digit_of(byte: u8) -> u8
-    ensures { result ≡ digit_of byte }
+// The value of a hexadecimal digit, in lower case; none for any other byte.
+pub fn hex_digit_of(byte: u8) -> Option<u8>
+    ensures { result ≡ digit_read (digit_of byte) }
 {
     match byte {
-        b'0'..=b'9' => byte - b'0',
-        b'a'..=b'f' => byte - b'a' + 10,
-        _ => 16,
+        b'0'..=b'9' => Some(byte - b'0'),
+        b'a'..=b'f' => Some(byte - b'a' + 10),
+        _ => None,
     }
 }
 
@@ -58,12 +56,10 @@ pub fn hex_digit_of(byte: u8) -> u8
 pub fn is_hex(text: &[u8]) -> bool
     ensures { result ≡ is_hex text.now }
 {
-    let mut i = 0;
-    while i < text.len() {
-        if 15 < hex_digit_of(text[i]) {
+    for byte in text {
+        if hex_digit_of(*byte).is_none() {
             return false;
         }
-        i = i + 1;
     }
     text.len() % 2 == 0
 }
@@ -75,32 +71,28 @@ fn put_pairs(out: &mut [u8], at: usize, text: &[u8]) -> usize
 {
     let count = text.len() / 2;
     let mut next = at;
-    let mut i = 0;
-    while i < count {
-        next = placing::put_byte(
-            out,
-            next,
-            hex_digit_of(text[2 * i]) * 16 + hex_digit_of(text[2 * i + 1]),
-        );
-        i = i + 1;
+    for i in 0..count {
+        let high = hex_digit_of(text[2 * i]).unwrap();
+        let low = hex_digit_of(text[2 * i + 1]).unwrap();
+        next = placing::put_byte(out, next, high * 16 + low);
     }
     next
 }
 
 // Puts the bytes that a hexadecimal text stands for at a place. The whole text is judged before any byte is put.
-pub fn put_unhexed(out: &mut [u8], at: usize, text: &[u8]) -> Written
+pub fn put_unhexed(out: &mut [u8], at: usize, text: &[u8]) -> Result<usize, Refusal>
     ensures result_value { written result ≡ unhex_into (length out.old) at text.now }
     ensures out_after { out.new ≡ after (unhex_into (length out.old) at text.now) at (pairs text.now) out.old }
 {
     if !is_hex(text) {
-        return Written::Refused(Refusal::BadText);
+        return Err(Refusal::BadText);
     }
     if out.len() < at {
-        return Written::Refused(Refusal::NoRoom);
+        return Err(Refusal::NoRoom);
     }
     if out.len() - at < text.len() / 2 {
-        return Written::Refused(Refusal::NoRoom);
+        return Err(Refusal::NoRoom);
     }
     put_pairs(out, at, text);
-    Written::Length(text.len() / 2)
+    Ok(text.len() / 2)
 }

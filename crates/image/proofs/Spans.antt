@@ -84,11 +84,8 @@ module _ (held : List ℕ) (from to : ℕ) where
 
 -- What is left of the units from one to before another: no unit, or one and the others.
 module _ (w : Bool) (held : List ℕ) (u to : ℕ) where
-  pub none_left : to ≤ u → alike w (part held u (to - u)) ≡ true
+  pub none_left : min to (length held) ≤ u → alike w (part held u (to - u)) ≡ true
   none_left h = span_from held u (to - u) w (λ unit l k m. absurd (omega arith))
-
-  pub past_end : length held ≤ u → alike w (part held u (to - u)) ≡ true
-  past_end h = span_from held u (to - u) w (λ unit l k m. absurd (omega arith))
 
   module _ (h : u < to) (k : u < length held) where
     one_left : alike w (part held u (to - u)) ≡ both (beq (missing held u) w) (alike w (part held (u + 1) (to - (u + 1))))

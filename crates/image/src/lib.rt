@@ -28,15 +28,10 @@ pub fn is_image(size: usize, held: &[u8]) -> bool
 pub fn all_are(missing: bool, held: &[u8], from: usize, to: usize) -> bool
     ensures { result ≡ alike missing (part held.now from (to - from)) }
 {
-    let mut unit = from;
-    while unit < to {
-        if held.len() <= unit {
-            return true;
-        }
+    for unit in from..to.min(held.len()) {
         if (held[unit] == 0) != missing {
             return false;
         }
-        unit += 1;
     }
     true
 }

@@ -15,9 +15,11 @@ use Rattle.packet.specs.Packet.{range_of, records_of}
 use Rattle.judging.specs.Judge.{length_in, outside, falling, misordered, bad_value, bad_values, bad_ranges, bad_packet, extension_size, option_size, options_size, judged, judging}
 use Rattle.packet.specs.declared.Packet.{Packet}
 use Rattle.packet.specs.declared.OptionRecord.{OptionRecord}
-use Rattle.judging.specs.declared.Judged.{Judged}
+use Rattle.std.specs.Prelude.{Result, Ok, Err}
+use Rattle.refusal.specs.Number.{number_of}
+use Rattle.refusal.specs.declared.Refusal.{Refusal}
+use Rattle.refusal.proofs.Distinct.{distinct}
 use Rattle.judging.specs.declared.Lengths.{Lengths}
-use Rattle.judging.specs.declared.Judged.TheVariants.{OptionsSize, BadRecord}
 
 -- What a packet keeps to that has no bad record, over stores of these lengths.
 pub record Good (lengths : Lengths) (p : Packet) : Type 0 where
@@ -56,15 +58,15 @@ module _ (lengths : Lengths) (p : Packet) where
 
 -- What an answer says of the packet.
 module _ (lengths : Lengths) (p : Packet) where
-  pub is_bad : (r : Judged) → judged r ≡ judging lengths p → r ≡ BadRecord → bad_packet lengths p ≡ true
+  pub is_bad : (r : Result ℕ Refusal) → judged r ≡ judging lengths p → (k : Refusal) → r ≡ Err k → bad_packet lengths p ≡ true
   unfolding judging
-  is_bad r e b = go (bad_packet lengths p) (sym (ap judged b) ∙ e)
+  is_bad r e k b = go (bad_packet lengths p) (sym (ap judged b) ∙ e)
     where
-      go : (t : Bool) → refused 11 ≡ pick t (refused 11) (given (options_size 0 (records_of p))) → t ≡ true
+      go : (t : Bool) → refused (number_of k) ≡ pick t (refused 11) (given (options_size 0 (records_of p))) → t ≡ true
       go true d = refl
       go false d = cc
 
-  pub is_good : (r : Judged) → judged r ≡ judging lengths p → (n : ℕ) → r ≡ OptionsSize n
+  pub is_good : (r : Result ℕ Refusal) → judged r ≡ judging lengths p → (n : ℕ) → r ≡ Ok n
       → (bad_packet lengths p ≡ false) × (n ≡ options_size 0 (records_of p))
   unfolding judging
   is_good r e n b = go (bad_packet lengths p) (sym (ap judged b) ∙ e)
@@ -74,11 +76,11 @@ module _ (lengths : Lengths) (p : Packet) where
       go false d = (refl, cc)
 
 -- An answer in the words of the promise is that of one value only.
-pub one_judged : (a b : Judged) → judged a ≡ judged b → a ≡ b
-one_judged (OptionsSize m) (OptionsSize n) e = cc
-one_judged (OptionsSize m) BadRecord e = cc
-one_judged BadRecord (OptionsSize n) e = cc
-one_judged BadRecord BadRecord e = refl
+pub one_judged : (a b : Result ℕ Refusal) → judged a ≡ judged b → a ≡ b
+one_judged (Ok m) (Ok n) e = cc
+one_judged (Ok m) (Err k) e = cc
+one_judged (Err j) (Ok n) e = cc
+one_judged (Err j) (Err k) e = let n : number_of j ≡ number_of k = cc in rw (distinct j k n)
 
 -- A good value: inside its store, and at most 65804 bytes long.
 module _ (lengths : Lengths) (r : OptionRecord) (e : bad_value lengths r ≡ false) where

@@ -16,7 +16,8 @@ use Rattle.packet.specs.declared.Packet.{Packet}
 use Rattle.packet.specs.declared.OptionRecord.{OptionRecord}
 use Rattle.judging.specs.Judge.{falling, misordered, bad_value, bad_values, bad_ranges, bad_packet, option_size, options_size, judged, judging}
 use Rattle.judging.specs.declared.Lengths.{Lengths}
-use Rattle.judging.specs.declared.Judged.TheVariants.{OptionsSize, BadRecord}
+use Rattle.std.specs.Prelude.{Ok, Err}
+use Rattle.refusal.specs.declared.Refusal.TheVariants.{BadRecord}
 use Rattle.judging.proofs.Order.{Ordered, ordered_none, ordered_more, sound}
 use Rattle.judging.proofs.Good.{option_small, value_length}
 
@@ -38,11 +39,11 @@ module _ (lengths : Lengths) (p : Packet) where
       go false false c d t = either_right c d t
 
   -- The answer from the test.
-  pub judged_bad : bad_packet lengths p ≡ true → judged BadRecord ≡ judging lengths p
+  pub judged_bad : bad_packet lengths p ≡ true → judged (Err BadRecord) ≡ judging lengths p
   unfolding judging
   judged_bad e = rw e
 
-  pub judged_good : (size : ℕ) → bad_packet lengths p ≡ false → size ≡ options_size 0 (records_of p) → judged (OptionsSize size) ≡ judging lengths p
+  pub judged_good : (size : ℕ) → bad_packet lengths p ≡ false → size ≡ options_size 0 (records_of p) → judged (Ok size) ≡ judging lengths p
   unfolding judging
   judged_good size e s = rw (e, s)
 

@@ -14,7 +14,10 @@ use Rattle.packet.specs.declared.Packet.{Packet}
 use Rattle.packet.specs.declared.OptionRecord.{OptionRecord}
 use Rattle.judging.specs.Judge.{misordered}
 use Rattle.judging.specs.Span.{below, span_in}
-use Rattle.judging.specs.declared.Span.TheVariants.{Between, Misordered}
+use Rattle.std.specs.Prelude.{Result, Ok, Err}
+use Rattle.refusal.specs.declared.Refusal.{Refusal}
+use Rattle.refusal.specs.declared.Refusal.TheVariants.{BadRecord}
+use Rattle.judging.specs.declared.Span.{Span}
 use Rattle.judging.proofs.Order.{Ordered}
 
 module _ (n : ℕ) (r : OptionRecord) (rs : List OptionRecord) where
@@ -50,11 +53,11 @@ pub record Spanning (rs : List OptionRecord) (n low high i before : ℕ) : Type 
 
 -- What the walk answers of a packet.
 module _ (p : Packet) (n : ℕ) where
-  pub spanned_not : misordered p ≡ true → Misordered ≡ span_in p n
+  pub spanned_not : misordered p ≡ true → Err BadRecord ≡ span_in p n
   spanned_not e = rw e refl
 
   pub spanned : misordered p ≡ false → (low high : ℕ) → low ≡ below n (records_of p) → high ≡ below (n + 1) (records_of p)
-      → Between low high ≡ span_in p n
+      → Ok (record { low = low; high = high }) ≡ span_in p n
   spanned e low high l h = rw (e, l, h) refl
 
 -- What the answer says of the packet.
@@ -64,16 +67,16 @@ pub record Spanned (p : Packet) (n low high : ℕ) : Type 0 where
   pub upper : high ≡ below (n + 1) (records_of p)
 
 module _ (p : Packet) (n : ℕ) where
-  pub from_misordered : Misordered ≡ span_in p n → misordered p ≡ true
-  from_misordered = go (misordered p)
+  pub from_misordered : (k : Refusal) → Err k ≡ span_in p n → misordered p ≡ true
+  from_misordered k = go (misordered p)
     where
-      go : (t : Bool) → Misordered ≡ pick t Misordered (Between (below n (records_of p)) (below (n + 1) (records_of p))) → t ≡ true
+      go : (t : Bool) → ◌≡◌ {A = Result Span Refusal} (Err k) (pick t (Err BadRecord) (Ok (record { low = below n (records_of p); high = below (n + 1) (records_of p) }))) → t ≡ true
       go true e = refl
       go false e = cc
 
-  pub from_between : (low high : ℕ) → Between low high ≡ span_in p n → Spanned p n low high
-  from_between low high = go (misordered p) refl
+  pub from_between : (s : Span) → Ok s ≡ span_in p n → Spanned p n s.low s.high
+  from_between s = go (misordered p) refl
     where
-      go : (t : Bool) → misordered p ≡ t → Between low high ≡ pick t Misordered (Between (below n (records_of p)) (below (n + 1) (records_of p))) → Spanned p n low high
+      go : (t : Bool) → misordered p ≡ t → ◌≡◌ {A = Result Span Refusal} (Ok s) (pick t (Err BadRecord) (Ok (record { low = below n (records_of p); high = below (n + 1) (records_of p) }))) → Spanned p n s.low s.high
       go true m e = absurd (let z : ◌≡◌ {A = ℕ} 0 1 = cc in omega arith)
       go false m e = record { sound = m; lower = cc; upper = cc }

@@ -1,8 +1,10 @@
 -- What makes a packet one that cannot be written or edited, BadRecord (11; docs/RULES.md, Writing and Edits), and how many
 -- bytes its options take.
-use Rattle.std.specs.Prelude.{ℕ, ◌+◌, ◌-◌, Bool, false, List, [], ◌∷◌, length, ltb}
+use Rattle.std.specs.Prelude.{ℕ, ◌+◌, ◌-◌, Bool, false, List, [], ◌∷◌, length, ltb, Result, Ok, Err}
 use Rattle.ground.specs.Choice.{pick, either}
 use Rattle.refusal.specs.Answer.{Answer, given, refused}
+use Rattle.refusal.specs.Number.{number_of}
+use Rattle.refusal.specs.declared.Refusal.{Refusal}
 use Rattle.packet.specs.Limits.{max_store, max_options, max_value, max_token}
 use Rattle.packet.specs.Packet.{chosen, Stores, range_of, records_of}
 use Rattle.packet.specs.declared.Packet.{Packet}
@@ -10,8 +12,6 @@ use Rattle.packet.specs.declared.OptionRecord.{OptionRecord}
 use Rattle.packet.specs.declared.Range.{Range}
 use Rattle.packet.specs.declared.Home.{Home}
 use Rattle.judging.specs.declared.Lengths.{Lengths}
-use Rattle.judging.specs.declared.Judged.{Judged}
-use Rattle.judging.specs.declared.Judged.TheVariants.{OptionsSize, BadRecord}
 
 -- How long two stores are.
 abbrev pub lengths_of : Stores → Lengths
@@ -71,10 +71,10 @@ abbrev pub options_size : ℕ → List OptionRecord → ℕ
 options_size before [] = 0
 options_size before (r ∷ rs) = option_size before r + options_size r.number rs
 
--- What a judgement says: the size of the options, or 11.
-abbrev pub judged : Judged → Answer ℕ
-judged (OptionsSize n) = given n
-judged BadRecord = refused 11
+-- What a judgement says: the size of the options, or a refusal's number.
+abbrev pub judged : Result ℕ Refusal → Answer ℕ
+judged (Ok n) = given n
+judged (Err e) = refused (number_of e)
 
 -- The judgement: BadRecord (11), or the size of the options.
 unfoldable pub judging : Lengths → Packet → Answer ℕ

@@ -4,12 +4,13 @@
 
 ghost use Rattle.std.specs.Prelude.{◌≡◌, ◌≤◌, ltb};
 ghost use Rattle.ground.specs.Choice.{pick, either};
-ghost use Rattle.packet.specs.Packet.{stores};
+ghost use Rattle.packet.specs.Packet.{held};
 ghost use Rattle.judging.specs.Judge.{lengths_of, is_too_long, length_in, outside, bad_value, bad_ranges, extension_size, option_size, judged, judging};
 ghost use Rattle.judging.specs.Span.{span_in};
 
 use packet::limits::{MAX_OPTIONS, MAX_STORE, MAX_TOKEN, MAX_VALUE};
-use packet::{Home, OptionRecord, Packet, Range};
+use packet::{Home, OptionRecord, Packet, Range, Stores};
+use refusal::Refusal;
 
 // How long the two stores are.
 #[derive(Clone, Copy)]
@@ -20,12 +21,12 @@ pub struct Lengths {
 
 impl Lengths {
     // Those of two stores that are lent.
-    pub fn of(datagram: &[u8], edits: &[u8]) -> Lengths
-        ensures { result ≡ lengths_of (stores datagram.now edits.now) }
+    pub fn of(stores: Stores) -> Lengths
+        ensures { result ≡ lengths_of (held stores.entry) }
     {
         Lengths {
-            datagram: datagram.len(),
-            edits: edits.len(),
+            datagram: stores.datagram.len(),
+            edits: stores.edits.len(),
         }
     }
 
@@ -40,46 +41,36 @@ impl Lengths {
     }
 }
 
-// A packet is good, and its options take this many bytes; or it has a bad record.
-#[derive(Clone, Copy)]
-pub enum Judged {
-    OptionsSize(usize),
-    BadRecord,
-}
-
-// Judges a packet over stores of the given lengths, and counts what its options take.
-pub fn judge(packet: Packet, lengths: Lengths) -> Judged
+// Judges a packet over stores of the given lengths, and counts what its options take; refuses one that has a bad record.
+pub fn judge(packet: Packet, lengths: Lengths) -> Result<usize, Refusal>
     ensures { judged result ≡ judging lengths packet }
 {
     let count = packet.count;
     if 3 < packet.header.version {
-        return Judged::BadRecord;
+        return Err(Refusal::BadRecord);
     }
     if MAX_OPTIONS < count {
-        return Judged::BadRecord;
+        return Err(Refusal::BadRecord);
     }
     if bad_ranges(lengths, packet.token, packet.payload) {
-        return Judged::BadRecord;
+        return Err(Refusal::BadRecord);
     }
     if count == 0 {
-        return Judged::OptionsSize(0);
+        return Ok(0);
     }
     // Taken out by itself: an index into the packet's own array would have the whole packet copied. This is a copy too, and a
     // packet with no option is spared it.
     let options = packet.options;
     let mut before: u16 = 0;
     let mut size: usize = 0;
-    let mut i = 0;
-    while i < count {
-        let option = options[i];
-        if bad_record(lengths, before, option) {
-            return Judged::BadRecord;
+    for option in &options[..count] {
+        if bad_record(lengths, before, *option) {
+            return Err(Refusal::BadRecord);
         }
-        size = size + size_after(before, option);
+        size += size_after(before, *option);
         before = option.number;
-        i = i + 1;
     }
-    Judged::OptionsSize(size)
+    Ok(size)
 }
 
 // Whether the token or the payload is outside its store, or the token too long for its four bits.
@@ -150,38 +141,34 @@ pub fn extension_size(n: usize) -> usize
     2
 }
 
-// Where the records of a number stand.
+// Where the records of a number stand: from `low` up to `high`, among records whose numbers do not fall.
 #[derive(Clone, Copy)]
-pub enum Span {
-    // From `low` up to `high`, among records whose numbers do not fall.
-    Between { low: usize, high: usize },
-    Misordered,
+pub struct Span {
+    pub low: usize,
+    pub high: usize,
 }
 
-// Judges the order of a packet's records, and says where those of a number stand.
-pub fn span_of(packet: Packet, number: u16) -> Span
+// Says where a packet's records of a number stand; refuses records that are too many or whose numbers fall.
+pub fn span_of(packet: Packet, number: u16) -> Result<Span, Refusal>
     ensures { result ≡ span_in packet number }
 {
     let count = packet.count;
     if MAX_OPTIONS < count {
-        return Span::Misordered;
+        return Err(Refusal::BadRecord);
     }
     let this = number as u32;
     let mut low = 0;
     let mut high = 0;
     let mut before = 0;
-    let mut i = 0;
-    while i < count {
-        let record = packet.options[i];
+    for record in &packet.options[..count] {
         if record.number < before {
-            return Span::Misordered;
+            return Err(Refusal::BadRecord);
         }
         before = record.number;
-        low = low + lower(record.number, this);
-        high = high + lower(record.number, this + 1);
-        i = i + 1;
+        low += lower(record.number, this);
+        high += lower(record.number, this + 1);
     }
-    Span::Between { low, high }
+    Ok(Span { low, high })
 }
 
 // 1 for a number that is lower than a bound, and 0 for any other.

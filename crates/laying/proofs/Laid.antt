@@ -7,12 +7,12 @@ use native.Mathlib.Omega.{arith}
 use lib.ListN.{length, set, length-set, length-append}
 use lib.Seq.{sets}
 use borrow.Author.Tests.{lt-ltb, le-ltb}
+use Rattle.std.specs.Prelude.{Result, Ok, Err, IsOk}
 use Rattle.rfc.specs.Message.{Opt, option_layout, payload_layout, header_layout}
 use Rattle.ground.proofs.Choice.{on_lt}
 use Rattle.refusal.specs.Answer.{Answer, given, refused, written, fitted, after}
-use Rattle.refusal.specs.declared.Written.{Written}
-use Rattle.refusal.specs.declared.Written.TheVariants.{Length, Refused}
 use Rattle.refusal.specs.declared.Refusal.TheVariants.{NoRoom}
+use Rattle.refusal.specs.declared.Refusal.{Refusal}
 use Rattle.refusal.proofs.Answers.{not_refused, same_given}
 use Rattle.refusal.proofs.Fitted.{put_fits}
 use Rattle.header.specs.Header.{raw_bytes, raw_of}
@@ -25,20 +25,25 @@ use Rattle.laying.proofs.Pieces.{option_length, payload_none, payload_some}
 
 module _ (a : Answer ℕ) (at : ℕ) (bytes old : List ℕ) where
   -- A refusal, with the output as it was.
-  pub lays_refused : (k : ℕ) (r : Written) → written r ≡ refused k → a ≡ refused k → Lays a at bytes old r old
+  pub lays_refused : (k : ℕ) (r : Result ℕ Refusal) → written r ≡ refused k → a ≡ refused k → Lays a at bytes old r old
   lays_refused k r w e = record { answer = w ∙ sym e; output = rw e }
 
   -- A length, with the bytes at their place.
-  pub lays_given : (n : ℕ) (new : List ℕ) → a ≡ given n → new ≡ sets old at bytes → Lays a at bytes old (Length n) new
+  pub lays_given : (n : ℕ) (new : List ℕ) → a ≡ given n → new ≡ sets old at bytes → Lays a at bytes old (Ok n) new
   lays_given n new e h = record { answer = sym e; output = rw e h }
 
   -- What is laid is put, and its length is answered.
-  pub lays_put : (r : Written) (n : ℕ) (new : List ℕ) → a ≡ given (length bytes) → Lays a at bytes old r new → written r ≡ given n → Put old at bytes (at + n) new
+  pub lays_put : (r : Result ℕ Refusal) (n : ℕ) (new : List ℕ) → a ≡ given (length bytes) → Lays a at bytes old r new → written r ≡ given n → Put old at bytes (at + n) new
   lays_put r n new e p w =
       record {
         next = ap (λ (k : ℕ). at + k) (same_given (sym w ∙ (p.answer ∙ e)));
         out = rw e at p.output;
       }
+
+-- A piece that has a length was laid.
+pub is_laid : (r : Result ℕ Refusal) (n : ℕ) → written r ≡ given n → IsOk r
+is_laid (Ok m) n e = refl
+is_laid (Err k) n e = cc
 
 -- Bytes for which there is room.
 pub laid_room : (room at : ℕ) (bytes : List ℕ) → at + length bytes ≤ room → laid room at bytes ≡ given (length bytes)
@@ -103,7 +108,7 @@ judged_given before number len room at n =
 -- The raw header and then the token are header and token laid at the start.
 pub head_put : (h : Header) (token old mid new : List ℕ) (r : ℕ) → h.version ≤ 3 → length token ≤ 15 → 4 + length token ≤ length old
     → mid ≡ after (fitted (length old) (raw_bytes (raw_of h (length token)))) 0 (raw_bytes (raw_of h (length token))) old
-    → Puts mid 4 token r new → LaysHeader h token old (Length r) new
+    → Puts mid 4 token r new → LaysHeader h token old (Ok r) new
 head_put h token old mid new r v t room e p =
     let raw = raw_bytes (raw_of h (length token)) in
     let is : raw ≡ header_layout (headed h token) = header_layout_lem h token [] [] v t in
@@ -113,19 +118,19 @@ head_put h token old mid new r v t room e p =
 
 -- A payload: none, one that has no room, and one after its marker.
 module _ (payload old : List ℕ) (at : ℕ) where
-  pub payload_absent : at ≤ length old → length payload ≡ 0 → LaysPayload payload at old (Length 0) old
+  pub payload_absent : at ≤ length old → length payload ≡ 0 → LaysPayload payload at old (Ok 0) old
   payload_absent h e =
       rw (payload_none payload e) (lays_given _ at [] old 0 old (laid_room (length old) at [] (omega arith)) refl)
 
-  pub payload_past : length old < at → LaysPayload payload at old (Refused NoRoom) old
+  pub payload_past : length old < at → LaysPayload payload at old (Err NoRoom) old
   payload_past h = lays_refused _ at _ old 12 _ refl (laid_full (length old) at (payload_layout payload) (omega arith))
 
   module _ (some : length payload ≡ 0 → ⊥) where
-    pub payload_full : length old - at ≤ length payload → LaysPayload payload at old (Refused NoRoom) old
+    pub payload_full : length old - at ≤ length payload → LaysPayload payload at old (Err NoRoom) old
     payload_full h =
         lays_refused _ at _ old 12 _ refl (laid_full (length old) at (payload_layout payload) (omega (arith, ap length (payload_some payload some))))
 
-    pub payload_put : (new : List ℕ) (r : ℕ) → at < length old → length payload < length old - at → Puts (set old at 255) (at + 1) payload r new → LaysPayload payload at old (Length (r - at)) new
+    pub payload_put : (new : List ℕ) (r : ℕ) → at < length old → length payload < length old - at → Puts (set old at 255) (at + 1) payload r new → LaysPayload payload at old (Ok (r - at)) new
     payload_put new r h room p =
         let all = put_put _ _ _ (255 ∷ []) _ _ _ _ (put_one old at 255) (puts_whole p (omega (arith, length-set old at 255))) in
         rw (payload_some payload some) (lays_given _ at (255 ∷ payload) old (r - at) new (laid_room (length old) at (255 ∷ payload) (omega arith) ∙ ap given (omega (arith, all.next))) all.out)

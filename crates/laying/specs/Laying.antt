@@ -1,16 +1,16 @@
 -- The pieces of a message put into a lent output: their bytes, and the order of their refusals.
-use Rattle.std.specs.Prelude.{ℕ, ◌+◌, ◌-◌, ◌≡◌, List, [], ◌++◌, length, ltb}
+use Rattle.std.specs.Prelude.{ℕ, ◌+◌, ◌-◌, ◌≡◌, List, [], ◌++◌, length, ltb, Result}
 use Rattle.ground.specs.Choice.{pick}
 use Rattle.rfc.specs.Message.{Message, Opt, extension_of, option_layout, payload_layout, header_layout}
 use Rattle.refusal.specs.Answer.{Answer, refused, given, written, room_from, after}
-use Rattle.refusal.specs.declared.Written.{Written}
+use Rattle.refusal.specs.declared.Refusal.{Refusal}
 use Rattle.class.specs.Class.{byte_of}
 use Rattle.header.specs.Header.{number_of_type}
 use Rattle.header.specs.declared.Header.{Header}
 use Rattle.packet.specs.Limits.{max_token, max_value}
 
 -- What a function promises that lays bytes at a place: its answer is `a`, and the output holds the bytes there, or what it held.
-pub record Lays (a : Answer ℕ) (at : ℕ) (bytes old : List ℕ) (r : Written) (new : List ℕ) : Type 0 where
+pub record Lays (a : Answer ℕ) (at : ℕ) (bytes old : List ℕ) (r : Result ℕ Refusal) (new : List ℕ) : Type 0 where
   pub answer : written r ≡ a
   pub output : new ≡ after a at bytes old
 
@@ -48,15 +48,15 @@ laid_option before o room at =
     (pick (ltb max_value (length o.value)) (refused 11) (laid room at (option_layout before o)))
 
 -- What `put_header` promises.
-abbrev pub LaysHeader : Header → List ℕ → List ℕ → Written → List ℕ → Type 0
+abbrev pub LaysHeader : Header → List ℕ → List ℕ → Result ℕ Refusal → List ℕ → Type 0
 LaysHeader h token old r new = Lays (laid_header h token (length old)) 0 (head_layout h token) old r new
 
 -- What `put_option` promises.
-abbrev pub LaysOption : ℕ → Opt → ℕ → List ℕ → Written → List ℕ → Type 0
+abbrev pub LaysOption : ℕ → Opt → ℕ → List ℕ → Result ℕ Refusal → List ℕ → Type 0
 LaysOption before o at old r new = Lays (laid_option before o (length old) at) at (option_layout before o) old r new
 
 -- What `put_payload` promises: marker and payload, and nothing for no payload.
-abbrev pub LaysPayload : List ℕ → ℕ → List ℕ → Written → List ℕ → Type 0
+abbrev pub LaysPayload : List ℕ → ℕ → List ℕ → Result ℕ Refusal → List ℕ → Type 0
 LaysPayload payload at old r new = Lays (laid (length old) at (payload_layout payload)) at (payload_layout payload) old r new
 
 -- How many bytes an option takes, by its delta and the length of its value: the byte of the nibbles, two extensions, the value.

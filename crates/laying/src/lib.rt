@@ -13,57 +13,65 @@ use header::Header;
 use judging::extension_size;
 use packet::limits::{MAX_TOKEN, MAX_VALUE};
 use placing::put_bytes;
-use refusal::{Refusal, Written};
+use refusal::Refusal;
 
 // Puts header and token at the start of the output.
-pub fn put_header(out: &mut [u8], header: Header, token: &[u8]) -> Written
+pub fn put_header(out: &mut [u8], header: Header, token: &[u8]) -> Result<usize, Refusal>
     ensures { LaysHeader header token.now out.old result out.new }
 {
     if 3 < header.version {
-        return Written::Refused(Refusal::BadRecord);
+        return Err(Refusal::BadRecord);
     }
     if (MAX_TOKEN as usize) < token.len() {
-        return Written::Refused(Refusal::BadRecord);
+        return Err(Refusal::BadRecord);
     }
     if out.len() < 4 + token.len() {
-        return Written::Refused(Refusal::NoRoom);
+        return Err(Refusal::NoRoom);
     }
     let raw = header.to_raw(token.len() as u8);
-    raw.serialize_into(out);
-    Written::Length(put_bytes(out, 4, token))
+    raw.serialize_into(out).unwrap();
+    Ok(put_bytes(out, 4, token))
 }
 
 // Puts an option after one of the number `before`.
-pub fn put_option(out: &mut [u8], at: usize, before: u16, number: u16, value: &[u8]) -> Written
+pub fn put_option(
+    out: &mut [u8],
+    at: usize,
+    before: u16,
+    number: u16,
+    value: &[u8],
+) -> Result<usize, Refusal>
     ensures { LaysOption before (record { number = number; value = value.now }) at out.old result out.new }
 {
-    match judged_option(before, number, value.len(), out.len(), at) {
-        Written::Refused(e) => Written::Refused(e),
-        Written::Length(size) => {
-            put_parts(out, at, (number - before) as usize, value);
-            Written::Length(size)
-        }
-    }
+    let size = judged_option(before, number, value.len(), out.len(), at)?;
+    put_parts(out, at, (number - before) as usize, value);
+    Ok(size)
 }
 
 // The refusals of an option, or how many bytes it takes.
-fn judged_option(before: u16, number: u16, len: usize, room: usize, at: usize) -> Written
+fn judged_option(
+    before: u16,
+    number: u16,
+    len: usize,
+    room: usize,
+    at: usize,
+) -> Result<usize, Refusal>
     ensures { written result ≡ judged_option before number len room at }
 {
     if number < before {
-        return Written::Refused(Refusal::BadRecord);
+        return Err(Refusal::BadRecord);
     }
     if (MAX_VALUE as usize) < len {
-        return Written::Refused(Refusal::BadRecord);
+        return Err(Refusal::BadRecord);
     }
     if room < at {
-        return Written::Refused(Refusal::NoRoom);
+        return Err(Refusal::NoRoom);
     }
     let size = option_size((number - before) as usize, len);
     if room - at < size {
-        return Written::Refused(Refusal::NoRoom);
+        return Err(Refusal::NoRoom);
     }
-    Written::Length(size)
+    Ok(size)
 }
 
 // Most options are short: neither their delta nor their length has an extension. Those are sized and put without looking for one.
@@ -131,19 +139,19 @@ fn put_extension(out: &mut [u8], at: usize, n: usize) -> usize
 }
 
 // Puts the payload after its marker; no payload has no marker.
-pub fn put_payload(out: &mut [u8], at: usize, payload: &[u8]) -> Written
+pub fn put_payload(out: &mut [u8], at: usize, payload: &[u8]) -> Result<usize, Refusal>
     ensures { LaysPayload payload.now at out.old result out.new }
 {
     if out.len() < at {
-        return Written::Refused(Refusal::NoRoom);
+        return Err(Refusal::NoRoom);
     }
-    if payload.len() == 0 {
-        return Written::Length(0);
+    if payload.is_empty() {
+        return Ok(0);
     }
     if out.len() - at <= payload.len() {
-        return Written::Refused(Refusal::NoRoom);
+        return Err(Refusal::NoRoom);
     }
     out[at] = 255;
     let next = put_bytes(out, at + 1, payload);
-    Written::Length(next - at)
+    Ok(next - at)
 }

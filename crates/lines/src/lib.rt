@@ -2,22 +2,21 @@
 #![tactic(auto)]
 
 ghost use Rattle.std.specs.Prelude.{[], ◌++◌};
-ghost use Rattle.refusal.specs.Answer.{outcome};
 ghost use Rattle.refusal.specs.Number.{number_of};
 ghost use Rattle.class.specs.Class.{byte_of};
 ghost use Rattle.header.specs.Header.{number_of_type, code_output};
-ghost use Rattle.packet.specs.Packet.{stores};
+ghost use Rattle.packet.specs.Packet.{stores, held};
 ghost use Rattle.packet.specs.Meaning.{meaning};
 ghost use Rattle.placing.specs.Put.{Puts};
+ghost use Rattle.reading.specs.Reading.{decoded};
 ghost use Rattle.lines.specs.Lines.{space, numbered, bytes_line, head_line, option_line, option_lines, message_lines, refusal_line, lines_of};
 
 use decimal::put_decimal;
 use header::Header;
 use hexadecimal::put_hex;
-use packet::Packet;
+use packet::{Packet, Stores};
 use placing::{put_byte, put_bytes};
-use reading::Decoded;
-use refusal::{Outcome, Refusal};
+use refusal::Refusal;
 
 // Puts a word and a number after it.
 pub fn put_number(out: &mut [u8], at: usize, word: &[u8], number: u64) -> usize
@@ -41,7 +40,7 @@ pub fn put_code(out: &mut [u8], at: usize, header: Header) -> usize
     ensures { Puts out.old at (space ++ code_output header) result out.new }
 {
     let mut code = [0u8; 4];
-    header.get_code(&mut code);
+    let _ = header.get_code(&mut code);
     let next = put_byte(out, at, b' ');
     put_bytes(out, next, &code)
 }
@@ -67,23 +66,14 @@ fn put_option(out: &mut [u8], at: usize, number: u16, value: &[u8], end: u8) -> 
 }
 
 // Puts a line for each option.
-fn put_options<'a>(
-    out: &mut [u8],
-    at: usize,
-    packet: Packet,
-    datagram: &'a [u8],
-    edits: &'a [u8],
-    end: u8,
-) -> usize
-    ensures { Puts out.old at (option_lines end (meaning (stores datagram.now edits.now) packet).options) result out.new }
+fn put_options<'a>(out: &mut [u8], at: usize, packet: Packet, stores: Stores<'a>, end: u8) -> usize
+    ensures { Puts out.old at (option_lines end (meaning (held stores.entry) packet).options) result out.new }
 {
     let count = packet.option_count();
     let mut next = at;
-    let mut i = 0;
-    while i < count {
+    for i in 0..count {
         let record = packet.options[i];
-        next = put_option(out, next, record.number, record.value(datagram, edits), end);
-        i = i + 1;
+        next = put_option(out, next, record.number, record.value(stores), end);
     }
     next
 }
@@ -93,23 +83,16 @@ pub fn put_message<'a>(
     out: &mut [u8],
     at: usize,
     packet: Packet,
-    datagram: &'a [u8],
-    edits: &'a [u8],
+    stores: Stores<'a>,
     end: u8,
 ) -> usize
-    ensures { Puts out.old at (message_lines end (meaning (stores datagram.now edits.now) packet)) result out.new }
+    ensures { Puts out.old at (message_lines end (meaning (held stores.entry) packet)) result out.new }
 {
     let header = packet.header;
     let next = put_header(out, at, header, end);
-    let next = put_bytes_line(out, next, b"token ", packet.get_token(datagram, edits), end);
-    let next = put_options(out, next, packet, datagram, edits, end);
-    put_bytes_line(
-        out,
-        next,
-        b"payload ",
-        packet.get_payload(datagram, edits),
-        end,
-    )
+    let next = put_bytes_line(out, next, b"token ", packet.get_token(stores), end);
+    let next = put_options(out, next, packet, stores, end);
+    put_bytes_line(out, next, b"payload ", packet.get_payload(stores), end)
 }
 
 // Puts the line of a refusal: its number.
@@ -122,15 +105,17 @@ pub fn put_refusal(out: &mut [u8], at: usize, refusal: Refusal, end: u8) -> usiz
 
 // Puts what reading a datagram answers: the lines of the message, or the line of the refusal. A packet that was read needs no
 // edit store.
-pub fn put_decoded(out: &mut [u8], at: usize, decoded: Decoded, datagram: &[u8], end: u8) -> usize
-    ensures { Puts out.old at (lines_of end (outcome decoded.outcome) (meaning (stores datagram.now []) decoded.packet)) result out.new }
+pub fn put_decoded(
+    out: &mut [u8],
+    at: usize,
+    read: Result<Packet, Refusal>,
+    datagram: &[u8],
+    end: u8,
+) -> usize
+    ensures { Puts out.old at (lines_of end (decoded read).answer (meaning (stores datagram.now []) (decoded read).value)) result out.new }
 {
-    let outcome = decoded.outcome;
-    match outcome {
-        Outcome::Refused(refusal) => put_refusal(out, at, refusal, end),
-        Outcome::Done => {
-            let packet = decoded.packet;
-            put_message(out, at, packet, datagram, b"", end)
-        }
+    match read {
+        Ok(packet) => put_message(out, at, packet, Stores::of(datagram), end),
+        Err(refusal) => put_refusal(out, at, refusal, end),
     }
 }

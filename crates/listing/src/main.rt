@@ -4,9 +4,8 @@
 ghost use Rattle.std.specs.Prelude.{◌≡◌, ◌≤◌, length, take};
 ghost use Rattle.listing.specs.Listing.{listing};
 
-use output::Console;
 use refusal::Refusal;
-use words::part;
+use reports::Failure;
 
 // Puts the lines of a datagram at the start of the output, which has room for those of every datagram, and answers how many
 // bytes they are.
@@ -26,16 +25,15 @@ fn list(datagram: &[u8], out: &mut [u8; 135000]) -> usize
     )
 }
 
-// The buffer has room for one byte more than a datagram may have, which is how a longer one is known. Where reading or writing
-// fails, standard error says why.
 fn main(rt: HostRuntime) {
-    let console = Console::of(&rt);
-    let mut datagram = [0u8; 65536];
-    let filled = reread::fill(console, &mut rt.stdin(), &mut datagram, 0);
-    if filled.failed {
-        return;
-    }
+    reports::end(&rt, show(&rt));
+}
+
+// There is room for one byte more than a datagram may have, which is how a longer one is known.
+fn show(rt: &HostRuntime) -> Result<(), Failure> {
+    let mut room = [0u8; 65536];
+    let datagram = reread::beginning(rt, &mut room)?;
     let mut out = [0u8; 135000];
-    let m = list(part(&datagram, 0, filled.count), &mut out);
-    console.write(&out[..m]);
+    let count = list(datagram, &mut out);
+    reports::write(rt.stdout(), &out[..count])
 }

@@ -1,13 +1,15 @@
 -- Laws of what is measured: what is left to judge of a good packet, what a length says, and how small sizes are.
 use Prim.Native.Nat.{ℕ, ◌≤◌}
-use mathlib.Core.Path.{◌≡◌, refl}
+use mathlib.Core.Path.{◌≡◌, refl, sym}
 use mathlib.Core.Bool.{Bool, true, false}
 use native.Mathlib.Omega.{arith}
+use Rattle.ground.specs.Choice.{pick}
 use Rattle.ground.proofs.Choice.{on, on_lt}
 use Rattle.refusal.specs.Answer.{Answer, given, refused}
-use Rattle.refusal.proofs.Answers.{Given, given_onward, on_given}
+use Rattle.refusal.proofs.Answers.{not_refused, Given, given_onward, on_given}
+use Rattle.packet.specs.Packet.{records_of}
 use Rattle.packet.specs.declared.Packet.{Packet}
-use Rattle.judging.specs.Judge.{is_too_long, bad_packet}
+use Rattle.judging.specs.Judge.{is_too_long, bad_packet, options_size, judging}
 use Rattle.judging.specs.declared.Lengths.{Lengths}
 use Rattle.measuring.specs.Measuring.{marker_size, counted, written_size, over, strictly, limited, size_fitted, sized, measured}
 use Rattle.measuring.specs.declared.Limit.{Limit}
@@ -26,6 +28,15 @@ module _ (strict : Bool) (limit : Limit) (room : ℕ) (lengths : Lengths) (p : P
   pub measured_bad : bad_packet lengths p ≡ true → measured strict limit room lengths p ≡ refused 11
   unfolding measured
   measured_bad e = rw (h, e)
+
+  -- What the judgement refuses is refused.
+  pub measured_judged : (k : ℕ) → refused k ≡ judging lengths p → refused k ≡ measured strict limit room lengths p
+  unfolding measured judging
+  measured_judged k e = rw h (go (bad_packet lengths p) e)
+    where
+      go : (t : Bool) → refused k ≡ pick t (refused 11) (given (options_size 0 (records_of p))) → refused k ≡ pick t (refused 11) (sized strict limit room p)
+      go true d = d
+      go false d = not_refused (sym d)
 
   pub measured_good : bad_packet lengths p ≡ false → measured strict limit room lengths p ≡ sized strict limit room p
   unfolding measured

@@ -9,9 +9,9 @@ ghost use Rattle.judging.specs.Judge.{options_size};
 ghost use Rattle.measuring.specs.Measuring.{sent_payload, marker_size, counted, written_size, over, empty_carries, strictly, limited, size_fitted, measured};
 
 use class::MessageClass;
-use judging::{Judged, Lengths, judge};
+use judging::{Lengths, judge};
 use packet::{Packet, Range};
-use refusal::{Outcome, Refusal, Written};
+use refusal::Refusal;
 
 // How large a message may be.
 #[derive(Clone, Copy)]
@@ -29,38 +29,34 @@ pub fn measured(
     packet: Packet,
     lengths: Lengths,
     room: usize,
-) -> Written
+) -> Result<usize, Refusal>
     ensures { written result ≡ measured strict limit room lengths packet }
 {
     if lengths.too_long() {
-        return Written::Refused(Refusal::TooLong);
+        return Err(Refusal::TooLong);
     }
-    match judge(packet, lengths) {
-        Judged::BadRecord => Written::Refused(Refusal::BadRecord),
-        Judged::OptionsSize(options) => match judged_strictly(strict, packet) {
-            Outcome::Refused(e) => Written::Refused(e),
-            Outcome::Done => sized(strict, limit, packet, options, room),
-        },
-    }
+    let options = judge(packet, lengths)?;
+    judged_strictly(strict, packet)?;
+    sized(strict, limit, packet, options, room)
 }
 
 // What strict mode asks besides: version 1, a token of at most 8 bytes, and nothing but a header in an empty message.
-fn judged_strictly(strict: bool, packet: Packet) -> Outcome
+fn judged_strictly(strict: bool, packet: Packet) -> Result<(), Refusal>
     ensures { outcome result ≡ strictly strict packet }
 {
     if !strict {
-        return Outcome::Done;
+        return Ok(());
     }
     if packet.header.version != 1 {
-        return Outcome::Refused(Refusal::WrongVersion);
+        return Err(Refusal::WrongVersion);
     }
     if 8 < packet.token.len {
-        return Outcome::Refused(Refusal::InvalidTokenLength);
+        return Err(Refusal::InvalidTokenLength);
     }
     if empty_carries(packet) {
-        return Outcome::Refused(Refusal::EmptyCarries);
+        return Err(Refusal::EmptyCarries);
     }
-    Outcome::Done
+    Ok(())
 }
 
 // An empty message is nothing but its header.
@@ -69,17 +65,17 @@ fn empty_carries(packet: Packet) -> bool
 {
     let header = packet.header;
     let code = header.code;
-    if code.to_byte() != 0 {
-        return false;
-    }
-    if 0 < packet.token.len {
-        return true;
-    }
-    0 < packet.count || 0 < packet.payload.len
+    code.to_byte() == 0 && (0 < packet.token.len || 0 < packet.count || 0 < packet.payload.len)
 }
 
 // The refusals of the limit and of the room, or how many bytes are to be written.
-fn sized(strict: bool, limit: Limit, packet: Packet, options: usize, room: usize) -> Written
+fn sized(
+    strict: bool,
+    limit: Limit,
+    packet: Packet,
+    options: usize,
+    room: usize,
+) -> Result<usize, Refusal>
     requires { (options ≡ options_size 0 (records_of packet)) × (options ≤ max_options * (max_value + 5)) }
     ensures { written result ≡ limited limit (counted strict packet) (size_fitted room (written_size strict packet)) }
 {
@@ -91,13 +87,13 @@ fn sized(strict: bool, limit: Limit, packet: Packet, options: usize, room: usize
     let rest = 4 + packet.token.len as usize + options + marker_size(kept);
     let size = rest + payload.len as usize;
     if limit.exceeded_by(size) {
-        return Written::Refused(Refusal::InvalidPacketLength);
+        return Err(Refusal::InvalidPacketLength);
     }
     let length = rest + kept;
     if room < length {
-        return Written::Refused(Refusal::NoRoom);
+        return Err(Refusal::NoRoom);
     }
-    Written::Length(length)
+    Ok(length)
 }
 
 // The payload that is sent: plain drops that of class `Empty`.

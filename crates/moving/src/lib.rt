@@ -1,7 +1,7 @@
 // Bytes moved within the slice that they are in.
 #![tactic(auto)]
 
-ghost use Rattle.std.specs.Prelude.{◌≡◌, ◌-◌, min};
+ghost use Rattle.std.specs.Prelude.{◌-◌};
 ghost use Rattle.ground.specs.Part.{part};
 ghost use Rattle.placing.specs.Put.{Put};
 
@@ -15,7 +15,7 @@ const PIECE: usize = 4096;
 pub fn move_to_front(bytes: &mut [u8], start: usize, end: usize) -> usize
     ensures { Put bytes.old 0 (part bytes.old start (end - start)) result bytes.new }
 {
-    let stop = smaller(end, bytes.len());
+    let stop = end.min(bytes.len());
     if stop < start {
         return 0;
     }
@@ -23,19 +23,10 @@ pub fn move_to_front(bytes: &mut [u8], start: usize, end: usize) -> usize
     let mut held = [0u8; PIECE];
     let mut i = 0;
     while i < all {
-        let count = smaller(all - i, PIECE);
+        let count = (all - i).min(PIECE);
         put_bytes(&mut held, 0, &bytes[start + i..start + i + count]);
         put_bytes(bytes, i, &held[..count]);
         i = i + count;
     }
     all
-}
-
-fn smaller(a: usize, b: usize) -> usize
-    ensures { result ≡ min a b }
-{
-    if a < b {
-        return a;
-    }
-    b
 }

@@ -1,13 +1,16 @@
 -- Where reading goes: positions stay inside the datagram, and what is read is small.
 use Prim.Native.Nat.{ℕ, ◌+◌, ◌-◌, ◌*◌, ◌/◌, ◌%◌, ◌<◌, ◌≤◌}
+use mathlib.Core.Path.{◌≡◌, sym, ◌∙◌}
 use mathlib.Core.List.{List}
 use native.Mathlib.Omega.{arith}
 use lib.ListN.{length, get_or}
+use borrow.Author.Tests.{le-ltb}
 use Rattle.ground.specs.Part.{Bytes}
 use Rattle.ground.proofs.Choice.{on_lt, on_le, on_eq}
 use Rattle.ground.proofs.Part.{byte_at}
-use Rattle.refusal.proofs.Answers.{Given, given_onward}
-use Rattle.option_reading.specs.Option.{Value, Place, ended, option, extended, value_at, length_at, option_at, place_at, end}
+use Rattle.refusal.specs.Answer.{Answer, given}
+use Rattle.refusal.proofs.Answers.{Given, given_onward, on_given}
+use Rattle.option_reading.specs.Option.{Value, Place, ended, option, extended, value_at, length_at, option_at, place_at, placed, end}
 
 -- A number that was read is small, and what follows it is in the datagram.
 pub record Small (s : List ℕ) (at : ℕ) (v : Value) : Type 0 where
@@ -57,3 +60,12 @@ unfolding place_at
 place_inside longest s before at b =
     on_le (Given (Inside s)) (length s) at (λ l. omega arith)
     (λ l. on_eq (Given (Inside s)) (get_or s at 0) 255 (λ e. omega arith) (λ e. option_inside longest s before at b l))
+
+-- In a datagram that is not too long, what is placed is what stands there, and it is inside.
+module _ (longest : ℕ) (s : List ℕ) (before at : ℕ) (short : length s ≤ 70000) where
+  pub here : {a : Answer Place} → a ≡ placed longest s before at → place_at longest s before at ≡ a
+  unfolding placed
+  here e = sym (e ∙ rw (le-ltb _ _ short))
+
+  pub inside_here : (p : Place) → Bytes s → given p ≡ placed longest s before at → Inside s p
+  inside_here p b e = on_given (Inside s) (place_at longest s before at) p (place_inside longest s before at b) (here e)

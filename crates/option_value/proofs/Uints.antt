@@ -1,5 +1,5 @@
 -- Laws of reading a uint, over the width: what is given and what is refused, and the round trips.
-use Prim.Native.Nat.{ℕ, ◌^◌, ◌<◌, ◌≤◌, min}
+use Prim.Native.Nat.{ℕ, ◌+◌, ◌-◌, ◌^◌, ◌<◌, ◌≤◌, min}
 use mathlib.Core.Path.{◌≡◌, refl, sym, ap, ◌∙◌}
 use mathlib.Core.List.{List}
 use native.Mathlib.Nat.{pow-le-pow_right, lt_of_lt_of_le, min-le_left, min-le_right, le-min, le_trans}
@@ -13,13 +13,14 @@ use Rattle.ground.specs.Part.{Bytes}
 use Rattle.rfc.specs.Uint.{uint, without_zeros}
 use Rattle.ground.proofs.Choice.{on_lt}
 use Rattle.ground.proofs.Part.{bytes_of}
-use Rattle.rfc.proofs.Uint.{read_written, length_uint, bytes_uint}
+use Rattle.rfc.proofs.Uint.{read_written, length_uint, bytes_uint, uint_enough}
 use Rattle.refusal.specs.Answer.{Answer, given, refused, fitted, after}
 use Rattle.refusal.proofs.Answers.{not_refused, same_given}
 use Rattle.refusal.proofs.Fitted.{front_after}
 use Rattle.option_value.specs.Uint.{Padded, with_zeros, padded, read_uint, ReadsUint, Pads, uint_of}
 use Rattle.option_value.specs.declared.Uint.{Uint}
-use Rattle.option_value.specs.declared.Uint.TheVariants.{Number}
+use Rattle.refusal.specs.declared.Refusal.{Refusal}
+use Rattle.std.specs.Prelude.{Result, Ok}
 use Rattle.option_value.proofs.Padding.{pads, one_pads}
 
 -- More bytes than the width are refused.
@@ -64,10 +65,16 @@ pub read_room : (width : ℕ) (p : Padded ℕ) (bs : List ℕ) → Bytes bs → 
 read_room width p bs b e =
     lt_of_lt_of_le (read_pads width p bs b e).room (pow-le-pow_right (lit< tt) (min-le_left width 8))
 
--- What a reader of a width answers as a number has room in the width: a narrower type holds it.
-pub read_narrow : (width n z : ℕ) (bs : List ℕ) {u : Uint} → ((i : ℕ) → Fits w8 (get_or bs i 0)) → ReadsUint width bs (uint_of u) → u ≡ Number n z → n < 256 ^ width
-read_narrow width n z bs small e h =
-    read_room width (with_zeros z n) bs (bytes_of bs (λ i. (small i).fits)) (sym e ∙ ap uint_of h)
+-- What a reader of a width answers as a number has room in the width: a type of that width holds it.
+pub read_narrow : (width : ℕ) (bs : List ℕ) {r : Result Uint Refusal} {u : Uint} → ((i : ℕ) → Fits w8 (get_or bs i 0)) → ReadsUint width bs (uint_of r) → r ≡ Ok u → u.number < 256 ^ width
+read_narrow width bs {u = u} small e h =
+    read_room width (with_zeros u.zeros u.number) bs (bytes_of bs (λ i. (small i).fits)) (sym e ∙ ap uint_of h)
+
+-- The widest type writes what a narrower one writes.
+pub uint_narrow : (width n : ℕ) → width ≤ 8 → n < 256 ^ width → uint 8 n ≡ uint width n
+uint_narrow width n w h =
+    let e : 8 ≡ width + (8 - width) = omega arith in
+    ap (λ (k : ℕ). uint k n) e ∙ uint_enough width (8 - width) n h
 
 -- Written then read is the number, and no leading zero.
 pub written_then_read : (width n : ℕ) → width ≤ 8 → n < 256 ^ width → read_uint width (uint width n) ≡ given (with_zeros 0 n)

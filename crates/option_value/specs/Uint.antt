@@ -1,19 +1,12 @@
 -- What reading a value of format uint answers, and the answers of its readers in the words of the promises.
-use Rattle.std.specs.Prelude.{ℕ, suc, ◌^◌, ◌<◌, ◌≤◌, min, ◌≡◌, List, [], ◌∷◌, ◌++◌, length, replicate, eqb, ltb}
+use Rattle.std.specs.Prelude.{ℕ, suc, ◌^◌, ◌<◌, ◌≤◌, min, ◌≡◌, List, [], ◌∷◌, ◌++◌, length, replicate, eqb, ltb, Result, Ok, Err}
 use Rattle.ground.specs.Choice.{pick}
 use Rattle.rfc.specs.Uint.{number, uint}
 use Rattle.refusal.specs.Number.{number_of}
+use Rattle.refusal.specs.declared.Refusal.{Refusal}
 use Rattle.refusal.specs.Answer.{Answer, given, refused}
 use Rattle.option_value.specs.declared.Uint.{Uint}
-use Rattle.option_value.specs.declared.Uint.TheVariants.{Number, Refused}
-use Rattle.option_value.specs.declared.ReadU8.{ReadU8}
-use Rattle.option_value.specs.declared.ReadU8.TheVariants.{Value as Value8, Refused as Refused8}
-use Rattle.option_value.specs.declared.ReadU16.{ReadU16}
-use Rattle.option_value.specs.declared.ReadU16.TheVariants.{Value as Value16, Refused as Refused16}
-use Rattle.option_value.specs.declared.ReadU32.{ReadU32}
-use Rattle.option_value.specs.declared.ReadU32.TheVariants.{Value as Value32, Refused as Refused32}
-use Rattle.option_value.specs.declared.ReadU64.{ReadU64}
-use Rattle.option_value.specs.declared.ReadU64.TheVariants.{Value as Value64, Refused as Refused64}
+use Rattle.option_value.specs.declared.Padded.{Padded as Read}
 
 -- What a value was read as, and how many leading zero bytes it has.
 pub record Padded (A : Type 0) : Type 0 where
@@ -48,26 +41,15 @@ pub record Pads (width : ℕ) (bs : List ℕ) (p : Padded ℕ) : Type 0 where
   pub bytes : bs ≡ replicate p.zeros 0 ++ uint width p.value
 
 -- The answer of reading a uint.
-abbrev pub uint_of : Uint → Answer (Padded ℕ)
-uint_of (Number n z) = given (with_zeros z n)
-uint_of (Refused e) = refused (number_of e)
+abbrev pub uint_of : Result Uint Refusal → Answer (Padded ℕ)
+uint_of (Ok u) = given (with_zeros u.zeros u.number)
+uint_of (Err e) = refused (number_of e)
 
--- The answer of reading a value of 1 byte.
-abbrev pub read_u8 : ReadU8 → Answer (Padded ℕ)
-read_u8 (Value8 v z) = given (with_zeros z v.0)
-read_u8 (Refused8 e) = refused (number_of e)
+-- The answer of reading a value of a width, by the number that a value of its type is.
+abbrev pub read_by : {T : Type 0} → (T → ℕ) → Result (Read T) Refusal → Answer (Padded ℕ)
+read_by number (Ok r) = given (with_zeros r.zeros (number r.value.0))
+read_by number (Err e) = refused (number_of e)
 
--- The answer of reading a value of 2 bytes.
-abbrev pub read_u16 : ReadU16 → Answer (Padded ℕ)
-read_u16 (Value16 v z) = given (with_zeros z v.0)
-read_u16 (Refused16 e) = refused (number_of e)
-
--- The answer of reading a value of 4 bytes.
-abbrev pub read_u32 : ReadU32 → Answer (Padded ℕ)
-read_u32 (Value32 v z) = given (with_zeros z v.0)
-read_u32 (Refused32 e) = refused (number_of e)
-
--- The answer of reading a value of 8 bytes.
-abbrev pub read_u64 : ReadU64 → Answer (Padded ℕ)
-read_u64 (Value64 v z) = given (with_zeros z v.0)
-read_u64 (Refused64 e) = refused (number_of e)
+-- The answer of reading a value of 1, 2, 4 or 8 bytes: a value of each of those types is its number.
+abbrev pub read_value : Result (Read ℕ) Refusal → Answer (Padded ℕ)
+read_value = read_by (λ n. n)

@@ -1,6 +1,6 @@
 -- Laws of the records in use: how a walk over them goes on, and what it has left of the records of a number.
 use Prim.Native.Nat.{ℕ, suc, ◌+◌, ◌-◌, ◌<◌, ◌≤◌}
-use mathlib.Core.Path.{◌≡◌, ap, ◌∙◌}
+use mathlib.Core.Path.{◌≡◌, refl, ap, ◌∙◌}
 use mathlib.Core.List.{List, [], ◌∷◌}
 use native.Mathlib.Numerals.{add-one}
 use native.Mathlib.Omega.{arith}
@@ -9,6 +9,9 @@ use lib.Seq.{drop-cons, get_or-take}
 use borrow.Author.Tests.{eq-eqb, ne_eqb}
 use Rattle.packet.specs.Packet.{none, of_number}
 use Rattle.packet.specs.declared.OptionRecord.{OptionRecord}
+use Rattle.std.specs.Prelude.{◌==◌, count_by}
+use Rattle.std.proofs.lemmas.List.Recursion.{is_count_by}
+use Rattle.ground.proofs.Choice.{by_eq}
 
 -- The first record is one of the number, or is not.
 pub first_of : (n : ℕ) (r : OptionRecord) (rs : List OptionRecord) → r.number ≡ n → of_number n (r ∷ rs) ≡ r ∷ of_number n rs
@@ -47,3 +50,9 @@ pub later : (l : List OptionRecord) (r : OptionRecord) (rs : List OptionRecord) 
 later l r rs e k above =
     let past : k ≡ suc (k - 1) = omega arith in
     ap (λ (m : List OptionRecord). get_or m k none) e ∙ ap (λ (j : ℕ). get_or (r ∷ rs) j none) past
+
+-- The records of a number are as many as a count of them says.
+pub counted : (n : ℕ) (rs : List OptionRecord) → length (of_number n rs) ≡ count_by (λ r. r.number == n) rs
+counted n =
+    is_count_by (λ rs. length (of_number n rs)) (λ r. r.number == n) refl
+    (λ r rs. by_eq r.number n (λ e. rw (eq-eqb r.number n e) (omega arith)) (λ z. rw (ne_eqb r.number n z) refl))

@@ -1,16 +1,15 @@
 -- What a packet is (docs/RULES.md, Packets), what its ranges name in two stores, and the new packet.
-use Rattle.std.specs.Prelude.{ℕ, ◌+◌, List, [], ◌∷◌, length, take, get_or, replicate, leb, eqb}
+use Rattle.std.specs.Prelude.{ℕ, ◌+◌, List, [], ◌∷◌, length, take, get_or, replicate, leb, eqb, Option, Some, None}
 use Rattle.ground.specs.Choice.{pick}
 use Rattle.ground.specs.Part.{part}
 use Rattle.header.specs.Header.{new_header}
 use Rattle.packet.specs.Limits.{max_options}
+use Rattle.packet.specs.declared.Stores.{Stores as Lent}
 use Rattle.packet.specs.declared.Packet.{Packet}
 use Rattle.packet.specs.declared.OptionRecord.{OptionRecord}
 use Rattle.packet.specs.declared.Range.{Range}
 use Rattle.packet.specs.declared.Home.{Home}
 use Rattle.packet.specs.declared.Home.TheVariants.{Datagram, Edits}
-use Rattle.packet.specs.declared.NumberAt.{NumberAt}
-use Rattle.packet.specs.declared.NumberAt.TheVariants.{Number, Absent}
 
 -- The record of no option.
 abbrev pub none : OptionRecord
@@ -41,6 +40,10 @@ pub record Stores : Type 0 where
 
 abbrev pub stores : List ℕ → List ℕ → Stores
 stores d e = record { datagram = d; edits = e }
+
+-- The bytes of two stores that are lent.
+abbrev pub held : Lent → Stores
+held s = stores s.datagram.now s.edits.now
 
 -- The store that a home names.
 abbrev pub store_of : Stores → Home → List ℕ
@@ -81,5 +84,5 @@ abbrev pub value_of : Stores → OptionRecord → List ℕ
 value_of s r = bytes_of s (range_of r)
 
 -- The number of the record at an index, if there is such a record.
-abbrev pub number_at : List OptionRecord → ℕ → NumberAt
-number_at rs n = pick (leb (length rs) n) Absent (Number (get_or rs n none).number)
+abbrev pub number_at : List OptionRecord → ℕ → Option ℕ
+number_at rs n = pick (leb (length rs) n) None (Some (get_or rs n none).number)

@@ -2,8 +2,8 @@
 // edit store (packet.rs).
 #![tactic(auto)]
 
-ghost use Rattle.std.specs.Prelude.{◌≡◌, length, get_or, ltb};
-ghost use Rattle.packet.specs.Packet.{new_packet, none, chosen, stores, bytes_in, place_in, bytes_of, place_of, range_of, value_of, records_of, of_number, number_at};
+ghost use Rattle.std.specs.Prelude.{◌≡◌, length, get_or, ltb, []};
+ghost use Rattle.packet.specs.Packet.{new_packet, none, chosen, stores, held, bytes_in, place_in, bytes_of, place_of, range_of, value_of, records_of, of_number, number_at};
 
 use header::Header;
 use limits::MAX_OPTIONS;
@@ -11,7 +11,7 @@ use limits::MAX_OPTIONS;
 pub mod limits;
 
 // The store that a range lies in.
-#[derive(Clone, Copy)]
+#[derive(Clone, Copy, Debug, PartialEq, Eq)]
 pub enum Home {
     Datagram,
     Edits,
@@ -19,12 +19,31 @@ pub enum Home {
 
 impl Home {
     // The store that the home names.
-    fn store<'a>(self, datagram: &'a [u8], edits: &'a [u8]) -> &'a [u8]
-        ensures { result ≡ chosen self datagram.entry edits.entry }
+    fn store<'a>(self, stores: Stores<'a>) -> &'a [u8]
+        ensures { result ≡ chosen self stores.entry.datagram stores.entry.edits }
     {
         match self {
-            Home::Datagram => datagram,
-            Home::Edits => edits,
+            Home::Datagram => stores.datagram,
+            Home::Edits => stores.edits,
+        }
+    }
+}
+
+// The two stores that the ranges of a packet lie in.
+#[derive(Clone, Copy)]
+pub struct Stores<'a> {
+    pub datagram: &'a [u8],
+    pub edits: &'a [u8],
+}
+
+impl<'a> Stores<'a> {
+    // Those of a packet that was read, which needs no edit store.
+    pub fn of(datagram: &'a [u8]) -> Stores<'a>
+        ensures { held result ≡ stores datagram.now [] }
+    {
+        Stores {
+            datagram,
+            edits: b"",
         }
     }
 }
@@ -77,12 +96,12 @@ impl Range {
     };
 
     // The bytes that the range names, as a part of the store that it lies in; none where it is not inside that store.
-    pub fn part<'a>(self, datagram: &'a [u8], edits: &'a [u8]) -> &'a [u8]
-        ensures result_value { result.now ≡ bytes_of (stores datagram.now edits.now) self }
-        ensures ref_ptr_value { result.ref_ptr ≡ place_of datagram.entry.ref_ptr edits.entry.ref_ptr (stores datagram.now edits.now) self }
+    pub fn part<'a>(self, stores: Stores<'a>) -> &'a [u8]
+        ensures result_value { result.now ≡ bytes_of (held stores.entry) self }
+        ensures ref_ptr_value { result.ref_ptr ≡ place_of stores.entry.datagram.ref_ptr stores.entry.edits.ref_ptr (held stores.entry) self }
     {
         let home = self.home;
-        let store = home.store(datagram, edits);
+        let store = home.store(stores);
         part_in(store, self.start, self.len)
     }
 }
@@ -114,20 +133,13 @@ impl OptionRecord {
     }
 
     // The option's value, as a part of its store.
-    pub fn value<'a>(self, datagram: &'a [u8], edits: &'a [u8]) -> &'a [u8]
-        ensures result_value { result.now ≡ value_of (stores datagram.now edits.now) self }
-        ensures ref_ptr_value { result.ref_ptr ≡ place_of datagram.entry.ref_ptr edits.entry.ref_ptr (stores datagram.now edits.now) (range_of self) }
+    pub fn value<'a>(self, stores: Stores<'a>) -> &'a [u8]
+        ensures result_value { result.now ≡ value_of (held stores.entry) self }
+        ensures ref_ptr_value { result.ref_ptr ≡ place_of stores.entry.datagram.ref_ptr stores.entry.edits.ref_ptr (held stores.entry) (range_of self) }
     {
         let range = self.range();
-        range.part(datagram, edits)
+        range.part(stores)
     }
-}
-
-// The number of an option, or that there is no such option.
-#[derive(Clone, Copy)]
-pub enum NumberAt {
-    Number(u16),
-    Absent,
 }
 
 impl Packet {
@@ -148,81 +160,71 @@ impl Packet {
     }
 
     // The token, as a part of its store.
-    pub fn get_token<'a>(self, datagram: &'a [u8], edits: &'a [u8]) -> &'a [u8]
-        ensures result_value { result.now ≡ bytes_of (stores datagram.now edits.now) self.token }
-        ensures ref_ptr_value { result.ref_ptr ≡ place_of datagram.entry.ref_ptr edits.entry.ref_ptr (stores datagram.now edits.now) self.token }
+    pub fn get_token<'a>(self, stores: Stores<'a>) -> &'a [u8]
+        ensures result_value { result.now ≡ bytes_of (held stores.entry) self.token }
+        ensures ref_ptr_value { result.ref_ptr ≡ place_of stores.entry.datagram.ref_ptr stores.entry.edits.ref_ptr (held stores.entry) self.token }
     {
         let token = self.token;
-        token.part(datagram, edits)
+        token.part(stores)
     }
 
     // The payload, as a part of its store.
-    pub fn get_payload<'a>(self, datagram: &'a [u8], edits: &'a [u8]) -> &'a [u8]
-        ensures result_value { result.now ≡ bytes_of (stores datagram.now edits.now) self.payload }
-        ensures ref_ptr_value { result.ref_ptr ≡ place_of datagram.entry.ref_ptr edits.entry.ref_ptr (stores datagram.now edits.now) self.payload }
+    pub fn get_payload<'a>(self, stores: Stores<'a>) -> &'a [u8]
+        ensures result_value { result.now ≡ bytes_of (held stores.entry) self.payload }
+        ensures ref_ptr_value { result.ref_ptr ≡ place_of stores.entry.datagram.ref_ptr stores.entry.edits.ref_ptr (held stores.entry) self.payload }
     {
         let payload = self.payload;
-        payload.part(datagram, edits)
+        payload.part(stores)
     }
 
-    // How many options there are; a count over 128 reads as 128.
+    // The records in use; a count over 128 reads as 128.
+    fn records(&self) -> &[OptionRecord]
+        ensures { result.now ≡ records_of self.now }
+    {
+        &self.options[..self.count.min(MAX_OPTIONS)]
+    }
+
+    // How many options there are.
     pub fn option_count(self) -> usize
         ensures { result ≡ length (records_of self) }
     {
-        let count = self.count;
-        if MAX_OPTIONS < count {
-            return MAX_OPTIONS;
-        }
-        count
+        self.records().len()
     }
 
     // The record of the option at an index; the empty record past the last.
     fn record_at(self, n: usize) -> OptionRecord
         ensures { result ≡ get_or (records_of self) n none }
     {
-        let count = self.option_count();
-        if count <= n {
-            return OptionRecord::EMPTY;
+        match self.records().get(n) {
+            Some(record) => *record,
+            None => OptionRecord::EMPTY,
         }
-        self.options[n]
     }
 
-    // The number of the option at an index.
-    pub fn option_number(self, n: usize) -> NumberAt
+    // The number of the option at an index, if there is such an option.
+    pub fn option_number(self, n: usize) -> Option<u16>
         ensures { result ≡ number_at (records_of self) n }
     {
-        if self.option_count() <= n {
-            return NumberAt::Absent;
-        }
-        let record = self.record_at(n);
-        NumberAt::Number(record.number)
+        self.records().get(n).map(|record| record.number)
     }
 
     // The value of the option at an index, as a part of its store.
-    pub fn option_value<'a>(self, datagram: &'a [u8], edits: &'a [u8], n: usize) -> &'a [u8]
-        ensures result_value { result.now ≡ value_of (stores datagram.now edits.now) (get_or (records_of self) n none) }
-        ensures ref_ptr_value { result.ref_ptr ≡ place_of datagram.entry.ref_ptr edits.entry.ref_ptr (stores datagram.now edits.now) (range_of (get_or (records_of self) n none)) }
+    pub fn option_value<'a>(self, stores: Stores<'a>, n: usize) -> &'a [u8]
+        ensures result_value { result.now ≡ value_of (held stores.entry) (get_or (records_of self) n none) }
+        ensures ref_ptr_value { result.ref_ptr ≡ place_of stores.entry.datagram.ref_ptr stores.entry.edits.ref_ptr (held stores.entry) (range_of (get_or (records_of self) n none)) }
     {
         let record = self.record_at(n);
-        record.value(datagram, edits)
+        record.value(stores)
     }
 
     // How many options have the number.
     pub fn count_of(self, number: u16) -> usize
         ensures { result ≡ length (of_number number (records_of self)) }
     {
-        let count = self.option_count();
-        let mut found = 0;
-        let mut i = 0;
-        while i < count {
-            if self.options[i].number == number {
-                found = found + 1;
-                i = i + 1;
-            } else {
-                i = i + 1;
-            }
-        }
-        found
+        self.records()
+            .iter()
+            .filter(|record| record.number == number)
+            .count()
     }
 
     // Whether an option has the number.
@@ -236,43 +238,32 @@ impl Packet {
     pub fn record_of(self, number: u16, n: usize) -> OptionRecord
         ensures { result ≡ get_or (of_number number (records_of self)) n none }
     {
-        let count = self.option_count();
         let mut left = n;
-        let mut i = 0;
-        while i < count {
-            if self.options[i].number == number {
+        for record in self.records() {
+            if record.number == number {
                 if left == 0 {
-                    return self.options[i];
+                    return *record;
                 }
-                left = left - 1;
-                i = i + 1;
-            } else {
-                i = i + 1;
+                left -= 1;
             }
         }
         OptionRecord::EMPTY
     }
 
     // The n-th value of a number, counted from 0, as a part of its store.
-    pub fn get_option<'a>(
-        self,
-        datagram: &'a [u8],
-        edits: &'a [u8],
-        number: u16,
-        n: usize,
-    ) -> &'a [u8]
-        ensures result_value { result.now ≡ value_of (stores datagram.now edits.now) (get_or (of_number number (records_of self)) n none) }
-        ensures ref_ptr_value { result.ref_ptr ≡ place_of datagram.entry.ref_ptr edits.entry.ref_ptr (stores datagram.now edits.now) (range_of (get_or (of_number number (records_of self)) n none)) }
+    pub fn get_option<'a>(self, stores: Stores<'a>, number: u16, n: usize) -> &'a [u8]
+        ensures result_value { result.now ≡ value_of (held stores.entry) (get_or (of_number number (records_of self)) n none) }
+        ensures ref_ptr_value { result.ref_ptr ≡ place_of stores.entry.datagram.ref_ptr stores.entry.edits.ref_ptr (held stores.entry) (range_of (get_or (of_number number (records_of self)) n none)) }
     {
         let record = self.record_of(number, n);
-        record.value(datagram, edits)
+        record.value(stores)
     }
 
     // The first value of a number, as a part of its store.
-    pub fn get_first_option<'a>(self, datagram: &'a [u8], edits: &'a [u8], number: u16) -> &'a [u8]
-        ensures result_value { result.now ≡ value_of (stores datagram.now edits.now) (get_or (of_number number (records_of self)) 0 none) }
-        ensures ref_ptr_value { result.ref_ptr ≡ place_of datagram.entry.ref_ptr edits.entry.ref_ptr (stores datagram.now edits.now) (range_of (get_or (of_number number (records_of self)) 0 none)) }
+    pub fn get_first_option<'a>(self, stores: Stores<'a>, number: u16) -> &'a [u8]
+        ensures result_value { result.now ≡ value_of (held stores.entry) (get_or (of_number number (records_of self)) 0 none) }
+        ensures ref_ptr_value { result.ref_ptr ≡ place_of stores.entry.datagram.ref_ptr stores.entry.edits.ref_ptr (held stores.entry) (range_of (get_or (of_number number (records_of self)) 0 none)) }
     {
-        self.get_option(datagram, edits, number, 0)
+        self.get_option(stores, number, 0)
     }
 }

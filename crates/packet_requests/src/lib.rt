@@ -6,30 +6,42 @@ mod limits;
 mod reading_packets;
 mod writing_packets;
 
-pub use checking::check;
-pub use limits::{Limiting, limit_at};
-use packet_words::Reply;
-use words::{Named, name_at};
+pub use checking::write_check;
+pub use limits::read_limit;
+use output::Page;
+use words::Line;
 pub use writing_packets::write;
 
-// The strict form of a name comes right after the plain one.
-const NAMES: [u8; 45] = *b"read;read-strict;write;write-strict;register;";
-
-const READ: usize = 0;
-
-const WRITE: usize = 1;
-
-// Which of these requests a line is.
-pub fn named(line: &[u8]) -> Named {
-    name_at(line, 0, &NAMES)
+#[derive(Clone, Copy)]
+pub enum Request {
+    Read { strict: bool },
+    Write { strict: bool },
+    Register,
 }
 
-// Answers a request. A datagram or a packet goes to the store, and what is written to the room, letters too.
-pub fn answer(name: Named, line: &[u8], store: &mut [u8], room: &mut [u8]) -> Reply {
-    let strict = name.index % 2 == 1;
-    match name.index / 2 {
-        READ => reading_packets::read(strict, line, name.next, store),
-        WRITE => Reply::of(writing_packets::answer(strict, line, name.next, store, room)),
-        _ => Reply::of(checking::answer(line, name.next, store, room)),
+// Which of these requests a name is.
+pub fn named(name: &[u8]) -> Option<Request> {
+    match name {
+        b"read" => Some(Request::Read { strict: false }),
+        b"read-strict" => Some(Request::Read { strict: true }),
+        b"write" => Some(Request::Write { strict: false }),
+        b"write-strict" => Some(Request::Write { strict: true }),
+        b"register" => Some(Request::Register),
+        _ => None,
+    }
+}
+
+// Answers a request. A datagram or a packet goes to the store, and what is written to the room.
+pub fn answer(
+    request: Request,
+    line: &mut Line,
+    store: &mut [u8],
+    room: &mut [u8],
+    page: &mut Page,
+) -> Option<()> {
+    match request {
+        Request::Read { strict } => reading_packets::read(strict, line, store, page),
+        Request::Write { strict } => writing_packets::answer(strict, line, store, room, page),
+        Request::Register => checking::answer(line, store, page),
     }
 }

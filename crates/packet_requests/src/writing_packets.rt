@@ -1,56 +1,39 @@
 // The request to write a packet.
-use crate::limits::limit_at;
-use packet::Packet;
-use packet_words::{EDITS, packet_at};
-use refusal::Written;
-use telling::Told;
-use words::{finished, number_at, part};
+use crate::limits::read_limit;
+use output::Page;
+use packet_words::{Held, read_packet};
+use refusal::Refusal;
+use telling::write_written;
+use words::Line;
 use writing::Limit;
 
 // write LIMIT ROOM PACKET
-pub fn answer(strict: bool, line: &[u8], at: usize, store: &mut [u8], room: &mut [u8]) -> Told {
-    let limiting = limit_at(line, at);
-    let limit = limiting.limit;
-    let lent = number_at(line, limiting.next, b' ', 71000);
-    let parts = packet_at(line, lent.next, store);
-    let packet = parts.packet;
-    let ends = parts.ends;
-    let size = lent.value as usize;
-    if !finished(line, parts.next) || room.len() < size {
-        return Told::no_request();
-    }
-    let written = write(
-        strict,
-        limit,
-        packet,
-        part(store, 0, ends.datagram),
-        part(store, EDITS, ends.edits),
-        &mut room[0..size],
-    );
-    Told::written(written)
+pub fn answer(
+    strict: bool,
+    line: &mut Line,
+    store: &mut [u8],
+    room: &mut [u8],
+    page: &mut Page,
+) -> Option<()> {
+    let limit = read_limit(line)?;
+    let room = line.room(room)?;
+    let held = read_packet(line, store)?;
+    line.finished()?;
+    write_written(page, write(strict, limit, held, room), room);
+    Some(())
 }
 
 // Writes a packet, by the function for its mode and limit.
-pub fn write<'a>(
-    strict: bool,
-    limit: Limit,
-    packet: Packet,
-    datagram: &'a [u8],
-    edits: &'a [u8],
-    room: &mut [u8],
-) -> Written {
-    if strict {
-        return match limit {
-            Limit::Default => writing::to_bytes_strict(packet, datagram, edits, room),
-            Limit::Given(most) => writing::to_bytes_with_limit_strict(
-                packet, most, datagram, edits, room,
-            ),
-            Limit::Unlimited => writing::to_bytes_unlimited_strict(packet, datagram, edits, room),
-        };
-    }
-    match limit {
-        Limit::Default => writing::to_bytes(packet, datagram, edits, room),
-        Limit::Given(most) => writing::to_bytes_with_limit(packet, most, datagram, edits, room),
-        Limit::Unlimited => writing::to_bytes_unlimited(packet, datagram, edits, room),
+pub fn write(strict: bool, limit: Limit, held: Held, room: &mut [u8]) -> Result<usize, Refusal> {
+    let Held { packet, stores } = held;
+    match (limit, strict) {
+        (Limit::Default, false) => writing::to_bytes(packet, stores, room),
+        (Limit::Default, true) => writing::to_bytes_strict(packet, stores, room),
+        (Limit::Given(most), false) => { writing::to_bytes_with_limit(packet, most, stores, room) }
+        (Limit::Given(most), true) => {
+            writing::to_bytes_with_limit_strict(packet, most, stores, room)
+        }
+        (Limit::Unlimited, false) => writing::to_bytes_unlimited(packet, stores, room),
+        (Limit::Unlimited, true) => { writing::to_bytes_unlimited_strict(packet, stores, room) }
     }
 }

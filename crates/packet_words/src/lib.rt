@@ -5,6 +5,6 @@ mod homes;
 mod read;
 mod shown;
 
-pub use homes::{EDITS, home_at};
-pub use read::{Ends, Parts, packet_at, range, record, where_fits};
-pub use shown::{Reply, put_parts, put_separator};
+pub use homes::{EDITS, read_home};
+pub use read::{range, read_packet, record};
+pub use shown::{Held, write_packet};

@@ -2,101 +2,42 @@
 // each, their bytes on the wire, and the text that these give back, to standard output.
 #![tactic(auto)]
 
-ghost use Rattle.std.specs.Prelude.{◌<◌, ◌≤◌, length};
+use reports::{Failure, Page};
 
-use output::{Console, flushed, spilled};
-use std::io::Stdin;
-use words::{byte_at, part};
-
-mod refused;
 mod showing;
 mod wording;
 
+// How many bytes the input has room for, one more than it may have.
+const ROOM: usize = 300000;
+
 fn main(rt: HostRuntime) {
-    let mut input = [0u8; 300000];
-    answer_input(&rt, &mut input);
+    let mut input = [0u8; ROOM];
+    reports::end(&rt, answer(&rt, &mut input));
 }
 
-fn answer_input(rt: &HostRuntime, input: &mut [u8; 300000]) {
-    answer_text(Console::of(rt), rt.stdin(), input);
-}
-
-// Reads the input, and answers each line. Standard error says where the input can't be read, or is too long.
-fn answer_text(console: Console, mut from: Stdin, input: &mut [u8]) {
-    let filled = reread::fill(console, &mut from, input, 0);
-    if filled.failed {
-        return;
+// Reads the input, and answers each line. Standard error says where the input is too long.
+fn answer(rt: &HostRuntime, input: &mut [u8]) -> Result<(), Failure> {
+    let text = reread::beginning(rt, input)?;
+    if ROOM <= text.len() {
+        let _ = eprintln!(rt; "the input is too long: 299999 bytes at most");
+        return Ok(());
     }
-    if filled.ended {
-        answer_with_buffers(console, part(input, 0, filled.count));
-    } else {
-        reports::say(console, b"the input is too long: 299999 bytes at most\n");
-    }
+    answer_lines(rt, text)
 }
 
-fn answer_with_buffers(console: Console, text: &[u8]) {
+// Answers each line, the last with a newline or without, and says at the end how many there are.
+fn answer_lines(rt: &HostRuntime, text: &[u8]) -> Result<(), Failure> {
     let mut store = [0u8; 70000];
     let mut work = [0u8; 100000];
     let mut out = [0u8; 200000];
-    answer_over(console, text, &mut store, &mut work, &mut out);
-}
-
-fn answer_over(
-    console: Console,
-    text: &[u8],
-    store: &mut [u8; 70000],
-    work: &mut [u8; 100000],
-    out: &mut [u8; 200000],
-) {
-    answer_lines(console, text, store, work, out);
-}
-
-// Answers each line, and says at the end how many there are.
-fn answer_lines(console: Console, text: &[u8], store: &mut [u8], work: &mut [u8], out: &mut [u8]) {
-    let mut place = 0;
-    let mut start = 0;
-    let mut count = 0;
-    while start < text.len() {
-        let end = line_end(text, start);
-        let line = without_newline(part(text, start, end));
-        place = showing::answer(
-            console,
-            line,
-            store,
-            work,
-            out,
-            spilled(console, out, place),
-        );
-        start = end;
-        count = count + 1;
+    let mut page = Page::new(rt.stdout(), &mut out);
+    let mut count = 0usize;
+    for line in text.split_inclusive(|byte| *byte == b'\n') {
+        let line = line.strip_suffix(b"\n").unwrap_or(line);
+        showing::answer(&mut page, line, &mut store, &mut work)?;
+        count = count.saturating_add(1);
     }
-    place = wording::put_count(out, spilled(console, out, place), count);
-    flushed(console, out, place);
-}
-
-// The position after the newline that ends the line at a position; the last line may have none.
-fn line_end(text: &[u8], at: usize) -> usize
-    requires { at < length text.now }
-    ensures { (at < result) × (result ≤ length text.now) }
-{
-    let mut i = at;
-    while i < text.len() {
-        if text[i] == b'\n' {
-            return i + 1;
-        }
-        i = i + 1;
-    }
-    i
-}
-
-fn without_newline(line: &[u8]) -> &[u8] {
-    let count = line.len();
-    if count == 0 {
-        return line;
-    }
-    let last = count - 1;
-    if byte_at(line, last) == b'\n' {
-        return part(line, 0, last);
-    }
-    line
+    page.spill()?;
+    writeln!(page, "lines {count}");
+    page.finish()
 }

@@ -1,23 +1,48 @@
 -- Laws of groups, a character at a time: judged, put, and looked through for `::`.
 use Prim.Native.Nat.{ℕ, suc, ◌+◌, ◌*◌, ◌%◌, ◌<◌, ◌≤◌}
 use mathlib.Core.Path.{◌≡◌, refl, sym, ap, ◌∙◌}
-use mathlib.Core.Bool.{Bool, true, false}
+use mathlib.Core.Bool.{Bool, true, false, not}
 use mathlib.Core.List.{List, [], ◌∷◌, ◌++◌}
 use native.Mathlib.Nat.{add-zero}
 use native.Mathlib.Numerals.{add-one}
 use native.Mathlib.Omega.{arith}
-use lib.Dec.{ltb, eqb}
+use lib.Dec.{ltb, leb, eqb}
 use lib.ListN.{length, get_or, drop, drop_of_length-le, get_or-eq_default}
 use lib.Seq.{drop-cons, get_or-drop}
-use borrow.Author.Tests.{lt-ltb, le-ltb, eq-eqb, ne_eqb, eqb-true}
-use Rattle.ground.specs.Choice.{pick, both}
-use Rattle.ground.proofs.Choice.{on}
+use borrow.Author.Tests.{lt-ltb, le-ltb, eq-eqb, ne_eqb, eqb-true, leb-true}
+use Rattle.ground.specs.Choice.{pick, both, within}
+use Rattle.ground.proofs.Choice.{on, on_lt, both_true}
 use Rattle.rfc.specs.Percent.{hex_value}
+use Rattle.std.specs.Prelude.{Option, None, is_some}
+use Rattle.percent.specs.Step.{digit_read}
 use Rattle.peer_reading.specs.Reading.{pair_bytes, are_groups, group_bytes, is_side, side_bytes, gap_in}
 
 -- The character at a place, first of what is left.
 here : (s : List ℕ) (i : ℕ) → i < length s → drop i s ≡ get_or s i 0 ∷ drop (i + 1) s
 here s i h = rw (add-one, drop-cons s i 0 h)
+
+-- What a character is told as: a digit, or none.
+pub told_none : (n : ℕ) (b : Bool) → is_some (digit_read n) ≡ not b → b ≡ true → 15 < n
+told_none n b h e =
+    on_lt (λ (o : Option ℕ). is_some o ≡ not b → 15 < n) n 16
+    (λ l q. let z : ◌≡◌ {A = Bool} true false = q ∙ ap not e in absurd (let k : ◌≡◌ {A = ℕ} 0 1 = cc in omega arith)) (λ l q. omega arith) h
+
+pub told_digit : (n : ℕ) (b : Bool) → is_some (digit_read n) ≡ not b → b ≡ false → n ≤ 15
+told_digit n b h e =
+    on_lt (λ (o : Option ℕ). is_some o ≡ not b → n ≤ 15) n 16 (λ l q. omega arith)
+    (λ l q. let z : ◌≡◌ {A = Bool} false true = q ∙ ap not e in absurd (let k : ◌≡◌ {A = ℕ} 0 1 = cc in omega arith)) h
+
+-- A character that is no digit has the value 16, and none has more.
+pub hex_most : (c : ℕ) → hex_value c ≤ 16
+unfolding hex_value
+hex_most c =
+    on (λ (n : ℕ). n ≤ 16) (within 0x30 0x39 c) (λ t. omega (arith, leb-true c 0x39 (both_true (leb 0x30 c) (leb c 0x39) t).1))
+    (λ _. on (λ (n : ℕ). n ≤ 16) (within 0x41 0x46 c) (λ t. omega (arith, leb-true c 0x46 (both_true (leb 0x41 c) (leb c 0x46) t).1))
+    (λ _. on (λ (n : ℕ). n ≤ 16) (within 0x61 0x66 c) (λ t. omega (arith, leb-true c 0x66 (both_true (leb 0x61 c) (leb c 0x66) t).1))
+    (λ _. omega arith)))
+
+pub no_digit_value : (c : ℕ) → digit_read (hex_value c) ≡ None → 16 ≡ hex_value c
+no_digit_value c e = omega (arith, hex_most c, told_none (hex_value c) true (ap is_some e) refl)
 
 -- Judging: the whole is groups exactly when what is left is, after so many digits.
 pub record Judging (s : List ℕ) (digits i : ℕ) : Type 0 where

@@ -13,7 +13,11 @@ use Rattle.refusal.proofs.Answers.{not_refused, same_given}
 use Rattle.decimal.specs.Decimal.{digits, decimal_at}
 use Rattle.decimal.proofs.Reading.{small as within-most}
 use Rattle.uri_text.specs.Tally.{first_length}
-use Rattle.peer_reading.specs.Reading.{zero_first, numeral, number_then, mapped_peer, from_port, port_in, Before, number_to}
+use Rattle.peer_reading.specs.Reading.{zero_first, numeral, number_then, mapped_peer, from_port, port_in, Before, number_of, number_to}
+use Rattle.peer_reading.specs.declared.Number.{Number}
+use Rattle.refusal.specs.declared.Refusal.{Refusal}
+use Rattle.std.specs.Prelude.{Option, Result, Ok}
+use Rattle.std.specs.Result.{result_ok}
 
 pub first_within : (mark : ℕ) (s : List ℕ) → first_length mark s ≤ length s
 unfolding first_length
@@ -86,6 +90,11 @@ module _ (mark most : ℕ) (s : List ℕ) (end : ℕ) (at : end ≡ 0 + first_le
   told_bad h e =
       let k : end ≡ first_length mark s = omega arith in
       sym (to_some mark most s (keep (first_length mark s)) (omega arith) ∙ (rw (sym (rw k at e)) refl))
+
+-- A number that was taken, of what `number_to` answered.
+pub taken : (mark most : ℕ) (s : List ℕ) {o : Option Number} {r : Result Number Refusal} {n : Number} → number_of o ≡ number_to mark most s → o ≡ result_ok r → r ≡ Ok n
+    → Numbered mark most s n.value n.next
+taken mark most s e p q = numbered mark most s _ _ (sym (ap number_of (p ∙ ap result_ok q)) ∙ e)
 
 -- A numeral: with a zero first, and without.
 pub numeral_zero : (most : ℕ) (t : List ℕ) → zero_first t ≡ true → refused 15 ≡ numeral most t

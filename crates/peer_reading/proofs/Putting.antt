@@ -9,20 +9,24 @@ use lib.ListN.{length, get_or, take, drop, replicate, length-append, length-take
 use borrow.Author.Tests.{lt-ltb, le-ltb, eq-eqb, ne_eqb}
 use Rattle.ground.proofs.Part.{put_front}
 use Rattle.refusal.specs.Answer.{Answer, given, refused, onward, beside}
-use Rattle.refusal.specs.declared.Outcome.TheVariants.{Done}
+use Rattle.std.specs.Prelude.{Result, Ok, Err}
+use Rattle.refusal.specs.declared.Refusal.{Refusal}
+use Rattle.refusal.specs.declared.Refusal.TheVariants.{BadText}
 use Rattle.placing.specs.Put.{Puts}
 use Rattle.placing.proofs.Puts.{puts_puts, puts_whole}
 use Rattle.uri_text.specs.Tally.{first_length}
 use Rattle.peer_reading.proofs.Numbered.{rest_is}
-use Rattle.peer_reading.specs.declared.Peer.{Peer}
 use Rattle.peer_reading.specs.Reading.{pair_bytes, is_side, side_bytes, gap_in, whole_address, cut_address, address_in, port_in, dotted_peer, grouped_peer, peer_in, ReadsPeer}
 
--- An answer by another that it is, and one that is a peer.
-pub same : (a b : Answer (List ℕ)) (r : Peer) → a ≡ b → ReadsPeer b r → ReadsPeer a r
+-- An answer by another that it is, one that is a peer, and one that is none.
+pub same : (a b : Answer (List ℕ)) (r : Result (List ℕ) Refusal) → a ≡ b → ReadsPeer b r → ReadsPeer a r
 same a b r e h = h ∙ ap (beside (replicate 18 0)) (sym e)
 
-pub answers : (a : Answer (List ℕ)) (x bytes : List ℕ) → a ≡ given x → bytes ≡ x → ReadsPeer a (record { outcome = Done; bytes = bytes })
+pub answers : (a : Answer (List ℕ)) (x bytes : List ℕ) → a ≡ given x → bytes ≡ x → ReadsPeer a (Ok bytes)
 answers a x bytes e q = ap (λ (b : List ℕ). record { answer = given tt; value = b }) q ∙ ap (beside (replicate 18 0)) (sym e)
+
+pub refuses : (a : Answer (List ℕ)) → a ≡ refused 15 → ReadsPeer a (Err BadText)
+refuses a e = ap (beside (replicate 18 0)) (sym e)
 
 -- What a negated test says.
 pub off : (b : Bool) → not b ≡ true → b ≡ false
@@ -103,7 +107,7 @@ module _ (t : List ℕ) (port : ℕ) where
     unfolding whole_address
     whole_other z = rw (good, ne_eqb (length (side_bytes t)) 16 (λ e. z (omega (arith, put_size (side_bytes t) end b p)))) refl
 
-    pub whole_all : (r : ℕ) (new : List ℕ) → end ≡ 16 → Puts b end (pair_bytes port) r new → ReadsPeer (with port (whole_address t)) (record { outcome = Done; bytes = new })
+    pub whole_all : (r : ℕ) (new : List ℕ) → end ≡ 16 → Puts b end (pair_bytes port) r new → ReadsPeer (with port (whole_address t)) (Ok new)
     unfolding whole_address
     whole_all r new e q =
         let n : length (side_bytes t) ≡ 16 = omega (arith, put_size (side_bytes t) end b p) in
@@ -132,7 +136,7 @@ module _ (l m : List ℕ) (port : ℕ) where
         rw (good, also, lt-ltb 15 (length (side_bytes l) + length (side_bytes m)) (omega (arith, put_size (side_bytes m) behind spare p, put_size (side_bytes l) before b q))) refl
 
     pub cut_all : before + behind ≤ 15 → (n o r : ℕ) (b₁ b₂ new : List ℕ) → Puts b before (take (16 - (before + behind)) (replicate 16 0)) n b₁ → Puts b₁ n (side_bytes m) o b₂
-        → Puts b₂ o (pair_bytes port) r new → ReadsPeer (with port (cut_address l m)) (record { outcome = Done; bytes = new })
+        → Puts b₂ o (pair_bytes port) r new → ReadsPeer (with port (cut_address l m)) (Ok new)
     unfolding cut_address
     cut_all h n o r b₁ b₂ new u v w =
         let x : List ℕ = side_bytes l in

@@ -10,7 +10,7 @@ use lib.Dec.{eqb}
 use lib.ListN.{length, get_or, drop, replicate, length-append}
 use lib.Seq.{take_at, drop-append-add}
 use borrow.Author.Tests.{lt-ltb, le-ltb, eqb-true}
-use Rattle.ground.specs.Choice.{pick, both}
+use Rattle.ground.specs.Choice.{pick}
 use Rattle.ground.specs.Part.{Bytes}
 use Rattle.ground.proofs.Choice.{on_lt, on_eq, both_true}
 use Rattle.ground.proofs.Part.{byte_at}

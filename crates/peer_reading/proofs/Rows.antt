@@ -12,7 +12,7 @@ use Rattle.ground.proofs.Choice.{on_lt, by_lt}
 use Rattle.ground.proofs.Part.{byte_at}
 use Rattle.rfc.specs.Percent.{hex_value}
 use Rattle.hexadecimal.specs.Hex.{hex_digit}
-use Rattle.peers.specs.Text.{group, group_text, piece, pieces, row}
+use Rattle.peers.specs.Text.{group, group_text, piece, pieces}
 use Rattle.peer_reading.specs.Reading.{pair_bytes, are_groups, group_bytes, is_side, side_bytes, gap_in}
 use Rattle.peer_reading.proofs.Digits.{Without, without_append}
 

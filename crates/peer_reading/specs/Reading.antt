@@ -1,14 +1,14 @@
 -- What a text is read as: the 18 bytes of a peer, 16 of address and 2 of port, or BadText (15). An IPv4 address is four numbers with
 -- dots, any other is groups in brackets; a colon and the port follow (RFC 4291, sections 2.2 and 2.5.5.2).
-use Rattle.std.specs.Prelude.{ℕ, ◌+◌, ◌-◌, ◌*◌, ◌/◌, ◌%◌, ◌≡◌, Bool, true, false, List, [], ◌∷◌, ◌++◌, length, get_or, take, drop, replicate, ltb, eqb}
+use Rattle.std.specs.Prelude.{ℕ, ◌+◌, ◌-◌, ◌*◌, ◌/◌, ◌%◌, ◌≡◌, Bool, true, false, List, [], ◌∷◌, ◌++◌, length, get_or, take, drop, replicate, ltb, eqb, Option, Some, None, Result, Ok, Err}
 use Rattle.ground.specs.Choice.{pick, both}
 use Rattle.rfc.specs.Percent.{hex_value}
-use Rattle.refusal.specs.Answer.{Answer, given, refused, onward, outcome, Beside, beside}
+use Rattle.refusal.specs.Answer.{Answer, given, refused, onward, Beside, beside}
+use Rattle.refusal.specs.Number.{number_of as refusal_number}
+use Rattle.refusal.specs.declared.Refusal.{Refusal}
 use Rattle.decimal.specs.Decimal.{decimal_at}
 use Rattle.uri_text.specs.Tally.{first_length}
-use Rattle.peer_reading.specs.declared.Peer.{Peer}
 use Rattle.peer_reading.specs.declared.Number.{Number}
-use Rattle.peer_reading.specs.declared.Number.TheVariants.{Value, Bad}
 
 -- Several digits, the first of them 0.
 abbrev pub zero_first : List ℕ → Bool
@@ -109,12 +109,13 @@ grouped_peer s =
 unfoldable pub peer_in : List ℕ → Answer (List ℕ)
 peer_in s = pick (eqb (get_or s 0 0) 91) (grouped_peer (drop 1 s)) (dotted_peer s)
 
--- The answer of reading: how it ended, and the bytes beside it.
-abbrev pub peer_of : Peer → Beside (List ℕ)
-peer_of r = record { answer = outcome r.outcome; value = r.bytes }
+-- The answer of reading: how it ended, and the bytes beside it, zeros beside a refusal.
+abbrev pub peer_of : Result (List ℕ) Refusal → Beside (List ℕ)
+peer_of (Ok bytes) = record { answer = given tt; value = bytes }
+peer_of (Err e) = record { answer = refused (refusal_number e); value = replicate 18 0 }
 
 -- What reading promises of its answer: the peer, and zeros beside a refusal.
-abbrev pub ReadsPeer : Answer (List ℕ) → Peer → Type 0
+abbrev pub ReadsPeer : Answer (List ℕ) → Result (List ℕ) Refusal → Type 0
 ReadsPeer a r = peer_of r ≡ beside (replicate 18 0) a
 
 -- A number before a mark, and where the text after it starts.
@@ -122,9 +123,9 @@ pub record Before : Type 0 where
   pub value : ℕ
   pub next : ℕ
 
-abbrev pub number_of : Number → Answer Before
-number_of (Value value next) = given (record { value = value; next = next })
-number_of Bad = refused 15
+abbrev pub number_of : Option Number → Answer Before
+number_of (Some n) = given (record { value = n.value; next = n.next })
+number_of None = refused 15
 
 abbrev pub number_to : (mark most : ℕ) → List ℕ → Answer Before
 number_to mark most s = number_then mark most s (λ n rest. given (record { value = n; next = first_length mark s + 1 }))

@@ -1,6 +1,7 @@
 // Groups of hexadecimal digits with colons between (RFC 4291, section 2.2).
 ghost use Rattle.std.specs.Prelude.{◌≡◌, ◌+◌, ◌<◌, eqb, length, get_or};
 ghost use Rattle.ground.specs.Choice.{both};
+ghost use Rattle.rfc.specs.Percent.{hex_value};
 ghost use Rattle.placing.specs.Put.{Puts};
 ghost use Rattle.peer_reading.specs.Reading.{pair_bytes, is_side, side_bytes, gap_in};
 
@@ -11,14 +12,12 @@ use placing::put_bytes;
 pub fn gap_in(text: &[u8]) -> usize
     ensures { result ≡ gap_in text.now }
 {
-    let mut i = 0;
-    while i < text.len() {
+    for i in 0..text.len() {
         if colons_at(text, i) {
             return i;
         }
-        i = i + 1;
     }
-    i
+    text.len()
 }
 
 // Whether two colons stand at a place.
@@ -43,23 +42,20 @@ pub fn are_groups(text: &[u8]) -> bool
         return true;
     }
     let mut digits: u8 = 0;
-    let mut i = 0;
-    while i < text.len() {
-        if text[i] == b':' {
+    for byte in text {
+        if *byte == b':' {
             if digits == 0 {
                 return false;
             }
             digits = 0;
-            i = i + 1;
         } else {
-            if 15 < hex_value(text[i]) {
+            if hex_value(*byte).is_none() {
                 return false;
             }
             if 3 < digits {
                 return false;
             }
-            digits = digits + 1;
-            i = i + 1;
+            digits += 1;
         }
     }
     0 < digits
@@ -74,18 +70,25 @@ pub fn put_groups(out: &mut [u8], at: usize, text: &[u8]) -> usize
     }
     let mut value: u64 = 0;
     let mut next = at;
-    let mut i = 0;
-    while i < text.len() {
-        if text[i] == b':' {
+    for byte in text {
+        if *byte == b':' {
             next = put_pair(out, next, value);
             value = 0;
-            i = i + 1;
         } else {
-            value = value % 4096 * 16 + hex_value(text[i]) as u64;
-            i = i + 1;
+            value = value % 4096 * 16 + worth(*byte);
         }
     }
     put_pair(out, next, value)
+}
+
+// What a digit adds to its group's value; 16, more than any digit, for another character.
+fn worth(byte: u8) -> u64
+    ensures { result ≡ hex_value byte }
+{
+    match hex_value(byte) {
+        Some(digit) => digit as u64,
+        None => 16,
+    }
 }
 
 // Puts a number of 16 bits, the high byte first.

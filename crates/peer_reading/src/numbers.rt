@@ -4,29 +4,30 @@ ghost use Rattle.decimal.specs.Decimal.{decimal_of};
 ghost use Rattle.peer_reading.specs.Reading.{zero_first, numeral, number_of, number_to};
 
 use crate::Number;
-use decimal::{Decimal, decimal_in};
+use decimal::decimal_in;
 use uri_text::part_end;
 
 // The number before the first mark of a text.
-pub fn number_to(text: &[u8], mark: u8, most: u64) -> Number
+pub fn number_to(text: &[u8], mark: u8, most: u64) -> Option<Number>
     ensures { number_of result ≡ number_to mark most text.now }
 {
     let end = part_end(text, 0, mark);
     if text.len() <= end {
-        return Number::Bad;
+        return None;
     }
-    match number_in(&text[..end], most) {
-        Decimal::Value(value) => Number::Value(value, end + 1),
-        Decimal::Bad => Number::Bad,
-    }
+    let value = number_in(&text[..end], most)?;
+    Some(Number {
+        value,
+        next: end + 1,
+    })
 }
 
 // The number that a text is.
-pub fn number_in(text: &[u8], most: u64) -> Decimal
+pub fn number_in(text: &[u8], most: u64) -> Option<u64>
     ensures { decimal_of result ≡ numeral most text.now }
 {
     if zero_first(text) {
-        return Decimal::Bad;
+        return None;
     }
     decimal_in(text, most)
 }
@@ -35,8 +36,5 @@ pub fn number_in(text: &[u8], most: u64) -> Decimal
 fn zero_first(text: &[u8]) -> bool
     ensures { result ≡ zero_first text.now }
 {
-    if 1 < text.len() {
-        return text[0] == b'0';
-    }
-    false
+    1 < text.len() && text[0] == b'0'
 }

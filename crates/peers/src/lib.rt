@@ -36,29 +36,20 @@ fn put_address(out: &mut [u8], at: usize, peer: [u8; 18]) -> usize
 fn is_mapped(peer: [u8; 18]) -> bool
     ensures { result ≡ is_mapped peer }
 {
-    if run_end(peer, 0) == 5 {
-        return group_of(peer, 5) == 65535;
-    }
-    false
+    run_end(peer, 0) == 5 && group_of(peer, 5) == 65535
 }
 
 // Puts the four numbers of an IPv4 address.
 fn put_dotted(out: &mut [u8], at: usize, peer: [u8; 18]) -> usize
     ensures { Puts out.old at (dotted peer) result out.new }
 {
-    let next = put_decimal(out, at, wide(peer[12]));
+    let next = put_decimal(out, at, peer[12] as u64);
     let next = put_byte(out, next, b'.');
-    let next = put_decimal(out, next, wide(peer[13]));
+    let next = put_decimal(out, next, peer[13] as u64);
     let next = put_byte(out, next, b'.');
-    let next = put_decimal(out, next, wide(peer[14]));
+    let next = put_decimal(out, next, peer[14] as u64);
     let next = put_byte(out, next, b'.');
-    put_decimal(out, next, wide(peer[15]))
-}
-
-fn wide(byte: u8) -> u64
-    ensures { result ≡ byte }
-{
-    byte as u64
+    put_decimal(out, next, peer[15] as u64)
 }
 
 // Puts the groups, with `::` for the longest run of zeros.
@@ -80,14 +71,12 @@ fn longest(peer: [u8; 18]) -> usize
 {
     let mut start = 8;
     let mut size = 1;
-    let mut i = 0;
-    while i < 8 {
+    for i in 0..8 {
         let end = run_end(peer, i);
         if size < end - i {
             start = i;
             size = end - i;
         }
-        i = i + 1;
     }
     start
 }
@@ -97,14 +86,12 @@ fn run_end(peer: [u8; 18], first: usize) -> usize
     requires { first ≤ 8 }
     ensures { (result ≡ run_end peer first) × ((first ≤ result) × (result ≤ 8)) }
 {
-    let mut i = first;
-    while i < 8 {
+    for i in first..8 {
         if group_of(peer, i) != 0 {
             return i;
         }
-        i = i + 1;
     }
-    i
+    8
 }
 
 // A group of the address.
@@ -128,10 +115,8 @@ fn put_row(out: &mut [u8], at: usize, peer: [u8; 18], from: usize, to: usize) ->
     ensures { Puts out.old at (row peer from to) result out.new }
 {
     let mut next = at;
-    let mut i = from;
-    while i < to {
+    for i in from..to {
         next = put_piece(out, next, peer, from, i);
-        i = i + 1;
     }
     next
 }

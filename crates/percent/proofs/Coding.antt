@@ -5,8 +5,11 @@ use mathlib.Core.Bool.{Bool, true, false}
 use mathlib.Core.List.{List, [], ◌∷◌, ◌++◌}
 use native.Mathlib.Numerals.{add-one}
 use native.Mathlib.Omega.{arith}
-use lib.ListN.{length, get_or, drop, length-append, drop_of_length-le}
+use lib.ListN.{length, get_or, drop, length-append}
 use lib.Seq.{drop-cons}
+use Rattle.std.specs.Prelude.{count_by, cond, not}
+use Rattle.std.proofs.lemmas.List.Recursion.{is_count_by}
+use Rattle.ground.specs.Choice.{pick}
 use Rattle.ground.proofs.Choice.{on}
 use Rattle.rfc.specs.Uri.{Kind, literal}
 use Rattle.rfc.specs.Percent.{hex_digit, coded, code}
@@ -39,25 +42,11 @@ others_small kind [] = omega arith
 others_small kind (b ∷ v) =
     on (λ (n : ℕ). n ≤ suc (length v)) (literal kind b) (λ e. omega (arith, others_small kind v)) (λ e. omega (arith, others_small kind v))
 
--- Counting: those counted and those of what is left are all.
-pub record Counting (kind : Kind) (v : List ℕ) (count i : ℕ) : Type 0 where
-  pub place : i ≤ length v
-  pub few : count ≤ i
-  pub all : count + others kind (drop i v) ≡ others kind v
-
-pub counting_start : (kind : Kind) (v : List ℕ) → Counting kind v 0 0
-counting_start kind v = record { place = omega arith; few = omega arith; all = omega arith }
-
-module _ (kind : Kind) (v : List ℕ) (count i : ℕ) (w : Counting kind v count i) where
-  pub counting_end : length v ≤ i → count ≡ others kind v
-  counting_end h = omega (arith, w.all, ap (others kind) (drop_of_length-le v h))
-
-  module _ (h : i < length v) where
-    here : others kind (drop i v) ≡ others kind (get_or v i 0 ∷ drop (i + 1) v)
-    here = ap (others kind) (drop-cons v i 0 h ∙ ap (λ (n : ℕ). get_or v i 0 ∷ drop n v) (sym (add-one i)))
-
-    pub counting_literal : literal kind (get_or v i 0) ≡ true → Counting kind v count (i + 1)
-    counting_literal e = record { place = omega arith; few = omega (arith, w.few); all = omega (arith, rw e at here, w.all) }
-
-    pub counting_other : literal kind (get_or v i 0) ≡ false → Counting kind v (count + 1) (i + 1)
-    counting_other e = record { place = omega arith; few = omega (arith, w.few); all = omega (arith, rw e at here, w.all) }
+-- They are those that a test of each byte counts.
+pub others_counted : (kind : Kind) (v : List ℕ) → others kind v ≡ count_by (λ b. not (literal kind b)) v
+others_counted kind =
+    is_count_by (others kind) (λ b. not (literal kind b)) refl (λ b v. by (literal kind b) (others kind v))
+  where
+    by : (t : Bool) (n : ℕ) → pick t n (suc n) ≡ cond (not t) (1 + n) n
+    by true n = refl
+    by false n = omega arith

@@ -14,9 +14,11 @@ use Rattle.ground.proofs.Choice.{on, on_lt, on_le, on_eq, by_lt}
 use Rattle.rfc.specs.Uri.{Kind, literal}
 use Rattle.rfc.specs.Percent.{hex_value, Due, good, bad_text, before, any, first, decode_from}
 use Rattle.rfc.proofs.Percent.{no_text}
-use Rattle.percent.specs.declared.Step.{Step}
-use Rattle.percent.specs.declared.Step.TheVariants.{Byte, End, Bad}
-use Rattle.percent.specs.Step.{percent_at, step_at}
+use Rattle.std.specs.Prelude.{Option, Some, None, Result, Ok, Err}
+use Rattle.refusal.specs.declared.Refusal.{Refusal}
+use Rattle.refusal.specs.declared.Refusal.TheVariants.{BadText}
+use Rattle.percent.specs.declared.Coded.{Coded}
+use Rattle.percent.specs.Step.{a_byte, percent_at, step_at}
 
 -- A byte stands at a place, in one character or three, and the rest from the next.
 pub record Took (kind : Kind) (due : Due) (s : List ℕ) (i b next : ℕ) : Type 0 where
@@ -24,10 +26,10 @@ pub record Took (kind : Kind) (due : Due) (s : List ℕ) (i b next : ℕ) : Type
   pub ahead : i < next
   pub inside : next ≤ length s
 
-abbrev pub Stepped : Kind → Due → List ℕ → ℕ → Step → Type 0
-Stepped kind due s i (Byte b next) = Took kind due s i b next
-Stepped kind due s i End = (decode_from kind due (drop i s) ≡ good []) × (length s ≤ i)
-Stepped kind due s i Bad = decode_from kind due (drop i s) ≡ bad_text
+abbrev pub Stepped : Kind → Due → List ℕ → ℕ → Result (Option Coded) Refusal → Type 0
+Stepped kind due s i (Ok (Some c)) = Took kind due s i c.byte c.next
+Stepped kind due s i (Ok None) = (decode_from kind due (drop i s) ≡ good []) × (length s ≤ i)
+Stepped kind due s i (Err e) = decode_from kind due (drop i s) ≡ bad_text
 
 pub left_at : (s : List ℕ) (i : ℕ) → i < length s → drop i s ≡ (get_or s i 0 ∷ drop (i + 1) s)
 left_at s i h = drop-cons s i 0 h ∙ ap (λ (n : ℕ). get_or s i 0 ∷ drop n s) (sym (add-one i))
@@ -71,11 +73,11 @@ module _ (kind : Kind) (s : List ℕ) (i : ℕ) where
         inside = p;
       }
 
-  pub byte_percent : (r : Step) → i < length s → get_or s i 0 ≡ 0x25 → Stepped kind first s (i + 1) r → Stepped kind any s i r
+  pub byte_percent : (r : Result (Option Coded) Refusal) → i < length s → get_or s i 0 ≡ 0x25 → Stepped kind first s (i + 1) r → Stepped kind any s i r
   unfolding decode_from
-  byte_percent (Byte b next) h e t = record { is = (ap (decode_from kind any) (left_at s i h) ∙ rw (eq-eqb (get_or s i 0) 0x25 e) refl) ∙ t.is; ahead = omega (arith, t.ahead); inside = t.inside }
-  byte_percent End h e t = absurd (no_text [] (sym (ap (decode_from kind first) (drop_of_length-le s t.1)) ∙ t.0))
-  byte_percent Bad h e t = (ap (decode_from kind any) (left_at s i h) ∙ rw (eq-eqb (get_or s i 0) 0x25 e) refl) ∙ t
+  byte_percent (Ok (Some c)) h e t = record { is = (ap (decode_from kind any) (left_at s i h) ∙ rw (eq-eqb (get_or s i 0) 0x25 e) refl) ∙ t.is; ahead = omega (arith, t.ahead); inside = t.inside }
+  byte_percent (Ok None) h e t = absurd (no_text [] (sym (ap (decode_from kind first) (drop_of_length-le s t.1)) ∙ t.0))
+  byte_percent (Err r) h e t = (ap (decode_from kind any) (left_at s i h) ∙ rw (eq-eqb (get_or s i 0) 0x25 e) refl) ∙ t
 
   pub byte_literal : i < length s → (get_or s i 0 ≡ 0x25 → ⊥) → literal kind (get_or s i 0) ≡ true → Took kind any s i (get_or s i 0) (i + 1)
   unfolding decode_from
@@ -92,7 +94,7 @@ percented kind s i p =
     on_lt (Stepped kind first s i) (length s - i) 2 (λ h. percent_short kind s i h)
     (λ h. digits h)
   where
-    digits : 2 ≤ length s - i → Stepped kind first s i (pick (both (ltb (hex_value (get_or s i 0)) 16) (ltb (hex_value (get_or s (i + 1) 0)) 16)) (Byte (hex_value (get_or s i 0) * 16 + hex_value (get_or s (i + 1) 0)) (i + 2)) Bad)
+    digits : 2 ≤ length s - i → Stepped kind first s i (pick (both (ltb (hex_value (get_or s i 0)) 16) (ltb (hex_value (get_or s (i + 1) 0)) 16)) (a_byte (hex_value (get_or s i 0) * 16 + hex_value (get_or s (i + 1) 0)) (i + 2)) (Err BadText))
     digits h =
         by_lt (hex_value (get_or s i 0)) 16
         (λ a. by_lt (hex_value (get_or s (i + 1) 0)) 16
@@ -109,11 +111,11 @@ stepped kind s i =
     (λ e. byte_percent kind s i (percent_at s (i + 1)) h e (percented kind s (i + 1) (omega arith)))
     (λ n. on (Stepped kind any s i) (literal kind (get_or s i 0)) (λ l. byte_literal kind s i h n l) (λ l. byte_bad kind s i h n l)))
 
-pub took : (kind : Kind) (s : List ℕ) (i b next : ℕ) (r : Step) → r ≡ step_at kind s i → r ≡ Byte b next → Took kind any s i b next
-took kind s i b next r t e = subst (Stepped kind any s i) (sym t ∙ e) (stepped kind s i)
+pub took : (kind : Kind) (s : List ℕ) (i : ℕ) (c : Coded) (r : Result (Option Coded) Refusal) → r ≡ step_at kind s i → r ≡ Ok (Some c) → Took kind any s i c.byte c.next
+took kind s i c r t e = subst (Stepped kind any s i) (sym t ∙ e) (stepped kind s i)
 
-pub ended : (kind : Kind) (s : List ℕ) (i : ℕ) (r : Step) → r ≡ step_at kind s i → r ≡ End → decode_from kind any (drop i s) ≡ good []
+pub ended : (kind : Kind) (s : List ℕ) (i : ℕ) (r : Result (Option Coded) Refusal) → r ≡ step_at kind s i → r ≡ Ok None → decode_from kind any (drop i s) ≡ good []
 ended kind s i r t e = (subst (Stepped kind any s i) (sym t ∙ e) (stepped kind s i)).0
 
-pub stopped : (kind : Kind) (s : List ℕ) (i : ℕ) (r : Step) → r ≡ step_at kind s i → r ≡ Bad → decode_from kind any (drop i s) ≡ bad_text
-stopped kind s i r t e = subst (Stepped kind any s i) (sym t ∙ e) (stepped kind s i)
+pub stopped : (kind : Kind) (s : List ℕ) (i : ℕ) (r : Result (Option Coded) Refusal) (e : Refusal) → r ≡ step_at kind s i → r ≡ Err e → decode_from kind any (drop i s) ≡ bad_text
+stopped kind s i r k t e = subst (Stepped kind any s i) (sym t ∙ e) (stepped kind s i)

@@ -6,7 +6,9 @@ ghost use Rattle.std.specs.Prelude.{◌≡◌, ◌<◌, ◌≤◌, length};
 ghost use Rattle.rfc.specs.Uri.{segment, query, literal};
 ghost use Rattle.rfc.specs.Percent.{hex_digit, hex_value, coded, code};
 ghost use Rattle.placing.specs.Put.{Puts};
-ghost use Rattle.percent.specs.Step.{kind_of, percent_at, step_at, others};
+ghost use Rattle.percent.specs.Step.{kind_of, digit_read, percent_at, step_at, others};
+
+use refusal::Refusal;
 
 // The two kinds of parts: segments of a path, and parts of a query.
 #[derive(Clone, Copy)]
@@ -37,16 +39,12 @@ fn is_pchar(c: u8) -> bool
 fn is_query(c: u8) -> bool
     ensures { result ≡ literal query c }
 {
-    if c == b'&' {
-        return false;
+    match c {
+        b'&' => false,
+        b'/' => true,
+        b'?' => true,
+        _ => is_pchar(c),
     }
-    if c == b'/' {
-        return true;
-    }
-    if c == b'?' {
-        return true;
-    }
-    is_pchar(c)
 }
 
 // Whether a character stands literally in a part.
@@ -59,15 +57,15 @@ fn is_literal(kind: Kind, c: u8) -> bool
     }
 }
 
-// The number of a hexadecimal digit, of either case; 16 for any other character.
-pub fn hex_value(c: u8) -> u8
-    ensures { result ≡ hex_value c }
+// The number of a hexadecimal digit, of either case; none for any other character.
+pub fn hex_value(c: u8) -> Option<u8>
+    ensures { result ≡ digit_read (hex_value c) }
 {
     match c {
-        b'0'..=b'9' => c - 0x30,
-        b'A'..=b'F' => c - 0x37,
-        b'a'..=b'f' => c - 0x57,
-        _ => 16,
+        b'0'..=b'9' => Some(c - 0x30),
+        b'A'..=b'F' => Some(c - 0x37),
+        b'a'..=b'f' => Some(c - 0x57),
+        _ => None,
     }
 }
 
@@ -82,51 +80,44 @@ fn hex_digit(n: u8) -> u8
     0x37 + n
 }
 
-// What stands at a place of a part's text.
+// A byte of a part's text, and the place after what stands for it.
 #[derive(Clone, Copy)]
-pub enum Step {
-    // A byte, and the place after it.
-    Byte(u8, usize),
-    // Nothing: the text ends here.
-    End,
-    // No character of such a part, or no percent code.
-    Bad,
+pub struct Coded {
+    pub byte: u8,
+    pub next: usize,
 }
 
-// The byte at a place of a part's text.
-pub fn byte_at(kind: Kind, part: &[u8], i: usize) -> Step
+// The byte at a place of a part's text; none where the text ends there. Refused: no character of such a part, or no percent code.
+pub fn byte_at(kind: Kind, part: &[u8], i: usize) -> Result<Option<Coded>, Refusal>
     ensures { result ≡ step_at (kind_of kind) part.now i }
 {
     if part.len() <= i {
-        return Step::End;
+        return Ok(None);
     }
-    let c = part[i];
-    if c == b'%' {
+    let byte = part[i];
+    if byte == b'%' {
         return percent_at(part, i + 1);
     }
-    if is_literal(kind, c) {
-        return Step::Byte(c, i + 1);
+    if is_literal(kind, byte) {
+        return Ok(Some(Coded { byte, next: i + 1 }));
     }
-    Step::Bad
+    Err(Refusal::BadText)
 }
 
 // The byte of a percent code whose digits stand at a place.
-fn percent_at(part: &[u8], i: usize) -> Step
+fn percent_at(part: &[u8], i: usize) -> Result<Option<Coded>, Refusal>
     requires { i ≤ length part.now }
     ensures { result ≡ percent_at part.now i }
 {
     if part.len() - i < 2 {
-        return Step::Bad;
+        return Err(Refusal::BadText);
     }
-    let high = hex_value(part[i]);
-    if 16 <= high {
-        return Step::Bad;
-    }
-    let low = hex_value(part[i + 1]);
-    if 16 <= low {
-        return Step::Bad;
-    }
-    Step::Byte(high * 16 + low, i + 2)
+    let high = hex_value(part[i]).ok_or(Refusal::BadText)?;
+    let low = hex_value(part[i + 1]).ok_or(Refusal::BadText)?;
+    Ok(Some(Coded {
+        byte: high * 16 + low,
+        next: i + 2,
+    }))
 }
 
 // Puts a byte's text.
@@ -145,10 +136,8 @@ pub fn put_value(out: &mut [u8], at: usize, kind: Kind, value: &[u8]) -> usize
     ensures { Puts out.old at (code (kind_of kind) value.now) result out.new }
 {
     let mut next = at;
-    let mut i = 0;
-    while i < value.len() {
-        next = put_coded(out, next, kind, value[i]);
-        i = i + 1;
+    for b in value {
+        next = put_coded(out, next, kind, *b);
     }
     next
 }
@@ -157,15 +146,5 @@ pub fn put_value(out: &mut [u8], at: usize, kind: Kind, value: &[u8]) -> usize
 pub fn coded_count(kind: Kind, value: &[u8]) -> usize
     ensures { result ≡ others (kind_of kind) value.now }
 {
-    let mut count = 0;
-    let mut i = 0;
-    while i < value.len() {
-        if is_literal(kind, value[i]) {
-            i = i + 1;
-        } else {
-            count = count + 1;
-            i = i + 1;
-        }
-    }
-    count
+    value.iter().filter(|b| !is_literal(kind, **b)).count()
 }

@@ -28,13 +28,7 @@ pub fn put_byte(out: &mut [u8], at: usize, byte: u8) -> usize
 fn fitting(size: usize, at: usize, count: usize) -> usize
     ensures { result ≡ min (size - at) count }
 {
-    if size < at {
-        return 0;
-    }
-    if size - at < count {
-        return size - at;
-    }
-    count
+    size.saturating_sub(at).min(count)
 }
 
 // Puts bytes as they are: the one copy of bytes that all crates use. The room is found first, so that what follows is plain.
@@ -140,15 +134,11 @@ fn put_piece(out: &mut [u8], at: usize, bytes: &[u8]) -> usize
 {
     let count = bytes.len();
     let mut held = [0u8; PIECE];
-    let mut i = 0;
-    while i < count {
+    for i in 0..count {
         held[i] = bytes[i];
-        i = i + 1;
     }
-    let mut j = 0;
-    while j < count {
+    for j in 0..count {
         out[at + j] = held[j];
-        j = j + 1;
     }
     at + count
 }

@@ -1,10 +1,10 @@
 -- What a plan is (docs/RULES.md, Image plans): a list of blocks (RFC 7959 2.2) that fetches each missing unit of an image once,
 -- and no unit that is held.
-use Rattle.std.specs.Prelude.{ℕ, zero, suc, ◌+◌, ◌*◌, ◌^◌, ◌≡◌, Bool, true, not, List, [], ◌∷◌, map, eqb, leb, ltb, length}
+use Rattle.std.specs.Prelude.{ℕ, zero, suc, ◌+◌, ◌*◌, ◌^◌, ◌≡◌, Bool, true, not, List, [], ◌∷◌, map, eqb, leb, ltb, length, Result}
 use Rattle.ground.specs.Choice.{pick, both}
 use Rattle.rfc.specs.Block.{Block, block_of}
 use Rattle.refusal.specs.Answer.{Answer, given, refused, outcome}
-use Rattle.refusal.specs.declared.Outcome.{Outcome}
+use Rattle.refusal.specs.declared.Refusal.{Refusal}
 use Rattle.image.specs.Image.{fits, missing}
 
 -- In units of 16 bytes: how many a block has, its first, and the first after it.
@@ -71,5 +71,5 @@ checking size held values =
     pick (both (fits size held) (accepted size held (map block_of values))) (given tt) (refused 22)
 
 -- What the check promises.
-abbrev pub Checks : ℕ → List ℕ → List ℕ → Outcome → Type 0
+abbrev pub Checks : ℕ → List ℕ → List ℕ → Result (Unit {0}) Refusal → Type 0
 Checks size held values r = outcome r ≡ checking size held values

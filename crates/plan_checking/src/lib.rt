@@ -8,30 +8,27 @@ ghost use Rattle.plan_checking.specs.Accepted.{Flagged};
 ghost use Rattle.plan_checking.specs.Steps.{Decides, Next, Width, At};
 
 use image::{HELD, MISSING, all_are, is_image};
-use refusal::{Outcome, Refusal};
+use refusal::Refusal;
 
 // Accepts a plan, or refuses it. A block has to start where the block before it stops or later: so each unit is looked at
 // once at most, in the gap before a block, in a block or behind the last.
-pub fn check(size: usize, held: &[u8], plan: &[u32]) -> Outcome
+pub fn check(size: usize, held: &[u8], plan: &[u32]) -> Result<(), Refusal>
     ensures { Checks size held.now plan.now result }
 {
     if !is_image(size, held) {
-        return Outcome::Refused(Refusal::BadPlan);
+        return Err(Refusal::BadPlan);
     }
     let mut at = 0;
-    let mut k = 0;
-    while k < plan.len() {
-        let value = plan[k];
-        if !follows(size, held, at, value) {
-            return Outcome::Refused(Refusal::BadPlan);
+    for value in plan {
+        if !follows(size, held, at, *value) {
+            return Err(Refusal::BadPlan);
         }
-        at = stop_of(value);
-        k += 1;
+        at = stop_of(*value);
     }
     if !all_are(HELD, held, at, held.len()) {
-        return Outcome::Refused(Refusal::BadPlan);
+        return Err(Refusal::BadPlan);
     }
-    Outcome::Done
+    Ok(())
 }
 
 // Whether a value may be the next in a plan whose blocks so far stop at the unit `at`.
@@ -97,14 +94,5 @@ fn width_of(exponent: u32) -> usize
     requires { exponent < 8 }
     ensures { Width exponent result }
 {
-    match exponent {
-        0 => 1,
-        1 => 2,
-        2 => 4,
-        3 => 8,
-        4 => 16,
-        5 => 32,
-        6 => 64,
-        _ => 128,
-    }
+    1 << exponent
 }

@@ -10,8 +10,8 @@ use Rattle.ground.proofs.Choice.{on, on_lt}
 use Rattle.rfc.specs.Block.{block_number}
 use Rattle.refusal.specs.Answer.{Answer, given, written, fitted, after}
 use Rattle.refusal.specs.declared.Refusal.TheVariants.{NoRoom, BadPlan}
-use Rattle.refusal.specs.declared.Written.{Written}
-use Rattle.refusal.specs.declared.Written.TheVariants.{Length, Refused}
+use Rattle.std.specs.Prelude.{Result, Ok, Err}
+use Rattle.refusal.specs.declared.Refusal.{Refusal}
 use Rattle.refusal.proofs.Answers.{not_refused, same_given}
 use Rattle.refusal.proofs.Fitted.{put_fits, no_room, fitted_output, front_after}
 use Rattle.placing.specs.Put.{Put}
@@ -36,7 +36,7 @@ given_fits room size held n =
 pub enough : (room size : ℕ) (held : List ℕ) → fits size held ≡ true → length (values size held) ≤ room → planning room size held ≡ given (length (values size held))
 enough room size held fit h = good_image room size held fit ∙ rw (le-ltb room (length (values size held)) h) refl
 
-module _ (size : ℕ) (held old : List ℕ) (r : Written) (new : List ℕ) (promise : Plans size held old r new) (n : ℕ) (is : written r ≡ given n) where
+module _ (size : ℕ) (held old : List ℕ) (r : Result ℕ Refusal) (new : List ℕ) (promise : Plans size held old r new) (n : ℕ) (is : written r ≡ given n) where
   fit : fits size held ≡ true
   fit = given_fits (length old) size held n (sym promise.answer ∙ is)
 
@@ -56,18 +56,18 @@ module _ (size : ℕ) (held old : List ℕ) (r : Written) (new : List ℕ) (prom
       new_is ∙ (fitted_output old (values size held) n room ∙ ap (λ (k : ℕ). values size held ++ drop k old) m)
 
 module _ (size : ℕ) (held old : List ℕ) where
-  pub bad_image : fits size held ≡ false → Plans size held old (Refused BadPlan) old
+  pub bad_image : fits size held ≡ false → Plans size held old (Err BadPlan) old
   unfolding planning
   bad_image e = record { answer = rw e refl; list = rw e refl }
 
   module _ (fit : fits size held ≡ true) where
     -- The lent list is too short, and left alone; or it has the plan in front.
-    pub too_long : (count : ℕ) → count ≡ length (planned size held) → length old < count → Plans size held old (Refused NoRoom) old
+    pub too_long : (count : ℕ) → count ≡ length (planned size held) → length old < count → Plans size held old (Err NoRoom) old
     too_long count c h =
         let n = no_room old (values size held) (omega (arith, length-map (planned size held) block_number)) in
         record { answer = rw (good_image (length old) size held fit) n.0; list = rw (good_image (length old) size held fit) n.1 }
 
-    pub written_out : (r : ℕ) (new : List ℕ) → length (planned size held) ≤ length old → Put old 0 (values size held) r new → Plans size held old (Length r) new
+    pub written_out : (r : ℕ) (new : List ℕ) → length (planned size held) ≤ length old → Put old 0 (values size held) r new → Plans size held old (Ok r) new
     written_out r new h p =
         let n = put_fits old (values size held) new r (omega (arith, p.next)) (omega (arith, p.next, length-map (planned size held) block_number)) p.out in
         record { answer = rw (good_image (length old) size held fit) n.0; list = rw (good_image (length old) size held fit) n.1 }

@@ -91,8 +91,11 @@ module _ (held : List ℕ) where
   grown_one unit z = record { small = lit≤ tt; wide = record { is = refl; least = lit≤ tt; most = lit≤ tt }; fits = one_open unit z }
 
   module _ (unit e w : ℕ) (g : Grown unit e w) where
-    pub full : 6 ≤ e → Largest held unit e w
-    full h = record { is = sym (largest_is unit 6 e g.small g.fits (λ j o. omega arith)); wide = g.wide }
+    pub full : 6 ≤ e → Largest held unit 6 w
+    full h =
+        let six : e ≡ 6 = omega (arith, g.small) in
+        let is : Largest held unit e w = record { is = sym (largest_is unit 6 e g.small g.fits (λ j o. omega arith)); wide = g.wide } in
+        rw six at is
 
     module _ (h : e < 6) where
       double : w * 2 ≡ 2 ^ suc e

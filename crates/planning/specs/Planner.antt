@@ -1,10 +1,10 @@
 -- Our planner (docs/RULES.md, Image plans): at each missing unit not yet covered, in rising order, the largest aligned block
 -- that starts there and touches no held unit.
-use Rattle.std.specs.Prelude.{ℕ, zero, suc, ◌+◌, ◌-◌, ◌*◌, ◌/◌, ◌%◌, ◌^◌, ◌≡◌, Bool, true, List, [], ◌∷◌, map, eqb, ltb, length, take, drop}
+use Rattle.std.specs.Prelude.{ℕ, zero, suc, ◌+◌, ◌-◌, ◌*◌, ◌/◌, ◌%◌, ◌^◌, ◌≡◌, Bool, true, List, [], ◌∷◌, map, eqb, ltb, length, take, drop, Result}
 use Rattle.ground.specs.Choice.{pick, both}
 use Rattle.rfc.specs.Block.{Block, block_number}
 use Rattle.refusal.specs.Answer.{Answer, refused, written, fitted, after}
-use Rattle.refusal.specs.declared.Written.{Written}
+use Rattle.refusal.specs.declared.Refusal.{Refusal}
 use Rattle.image.specs.Image.{fits, alike}
 use Rattle.plan_checking.specs.Plan.{start}
 use Rattle.plan_checking.specs.Steps.{Width}
@@ -50,7 +50,7 @@ unfoldable pub planning : ℕ → ℕ → List ℕ → Answer ℕ
 planning room size held = pick (fits size held) (fitted room (values size held)) (refused 22)
 
 -- What the planner promises, of its answer and of the list that is lent.
-pub record Plans (size : ℕ) (held old : List ℕ) (r : Written) (new : List ℕ) : Type 0 where
+pub record Plans (size : ℕ) (held old : List ℕ) (r : Result ℕ Refusal) (new : List ℕ) : Type 0 where
   pub answer : written r ≡ planning (length old) size held
   pub list : new ≡ after (planning (length old) size held) 0 (values size held) old
 

@@ -8,7 +8,7 @@ ghost use Rattle.plan_checking.specs.Steps.{Width};
 ghost use Rattle.planning.specs.Planner.{block_at, planned, values, Largest, Plans};
 
 use image::{MISSING, all_are, is_image};
-use refusal::{Refusal, Written};
+use refusal::Refusal;
 
 // The largest block that may start at a unit: its exponent, and how many units it has.
 #[derive(Clone, Copy)]
@@ -19,19 +19,19 @@ struct Found {
 
 // Writes our plan to the start of the list. One of half as many numbers as there are units, rounded up, is never too short,
 // and isn't counted for.
-pub fn plan(size: usize, held: &[u8], list: &mut [u32]) -> Written
+pub fn plan(size: usize, held: &[u8], list: &mut [u32]) -> Result<usize, Refusal>
     ensures { Plans size held.now list.old result list.new }
 {
     if !is_image(size, held) {
-        return Written::Refused(Refusal::BadPlan);
+        return Err(Refusal::BadPlan);
     }
     if (held.len() + 1) / 2 <= list.len() {
-        return Written::Length(put_blocks(size, held, list));
+        return Ok(put_blocks(size, held, list));
     }
     if list.len() < count_blocks(held) {
-        return Written::Refused(Refusal::NoRoom);
+        return Err(Refusal::NoRoom);
     }
-    Written::Length(put_blocks(size, held, list))
+    Ok(put_blocks(size, held, list))
 }
 
 // Writes the values of our plan, and says how many they are.
@@ -80,9 +80,8 @@ fn largest_at(held: &[u8], unit: usize) -> Found
     requires { (unit < 65536) × (get_or held.now unit 0 ≡ 0) }
     ensures { Largest held.now unit result.exponent result.width }
 {
-    let mut exponent = 0;
     let mut width = 1;
-    while exponent < 6 {
+    for exponent in 0..6 {
         let double = width * 2;
         if unit % double != 0 {
             return Found { exponent, width };
@@ -91,9 +90,8 @@ fn largest_at(held: &[u8], unit: usize) -> Found
             return Found { exponent, width };
         }
         width = double;
-        exponent += 1;
     }
-    Found { exponent, width }
+    Found { exponent: 6, width }
 }
 
 // The value of the block of this width that starts at a unit.

@@ -1,83 +1,64 @@
-// Requests on the getters of a raw packet, and on its edits.
-use crate::reply::{More, Reply};
-use edit_scripts::{Script, played};
-use packet::Packet;
-use packet_words::{EDITS, Ends};
-use raw_words::raw_at;
-use refusal::Outcome;
-use telling::{RAW, REFUSED, Told};
-use words::{NOWHERE, after, byte_at, finished, numbers_end};
+// The getters of a raw packet, and its edits.
+use class_words::{write_class_and_id, write_version_and_type};
+use edit_scripts::play;
+use edit_steps::Source;
+use getter_words::write_getters;
+use output::Page;
+use packet::Stores;
+use packet_words::Held;
+use raw_words::{Raw, read_raw, write_raw};
+use telling::write_refused;
+use words::Line;
 
-// get-raw NUMBERS RAW
-pub fn get(line: &[u8], at: usize, store: &mut [u8]) -> Reply {
-    let asked = asked_at(line, at);
-    let raw = raw_at(line, past_asked(line, at), store);
-    let packet = raw.packet;
-    if !finished(line, raw.next) {
-        return Reply::of(Told::no_request());
-    }
-    Reply::showing(Told::nothing(), More::Getters(asked), packet, raw.ends)
+// get-raw NUMBERS RAW, with a dash for no numbers
+pub fn get(line: &mut Line, store: &mut [u8], page: &mut Page) -> Option<()> {
+    let asked = read_asked(line)?;
+    let raw = read_raw(line, store)?;
+    line.finished()?;
+    write_getters(page, asked, raw.held());
+    Some(())
 }
 
-// Where the numbers stand that are asked for; NOWHERE where a dash says that there are none.
-fn asked_at(line: &[u8], at: usize) -> usize {
-    if byte_at(line, after(line, at, b' ')) == b'-' {
-        return NOWHERE;
+// Goes past the numbers that are asked for, and answers the line from them on.
+fn read_asked<'l>(line: &mut Line<'l>) -> Option<Option<Line<'l>>> {
+    if line.past(b" -").is_some() {
+        return Some(None);
     }
-    at
+    let asked = *line;
+    line.numbers()?;
+    Some(Some(asked))
 }
 
-// Where the word of the numbers ends that are asked for.
-fn past_asked(line: &[u8], at: usize) -> usize {
-    let start = after(line, at, b' ');
-    if byte_at(line, start) == b'-' {
-        return after(line, start, b'-');
+// edit-raw RAW ; STEP ; STEP. No step of a raw one looks at the datagram.
+pub fn edit(line: &mut Line, store: &mut [u8], page: &mut Page) -> Option<()> {
+    let Raw {
+        packet,
+        datagram,
+        edits,
+    } = read_raw(line, store)?;
+    let mut source = Source::new(true, edits);
+    let played = play(packet, line, b"", &mut source)?;
+    match played.refused {
+        Some(why) => write_refused(page, why),
+        None => page.text(b"raw"),
     }
-    numbers_end(line, at)
+    write_edited(
+        page,
+        Held {
+            packet: played.packet,
+            stores: Stores {
+                datagram,
+                edits: source.edits,
+            },
+        },
+    );
+    Some(())
 }
 
-// edit-raw RAW ; STEP ; STEP
-pub fn edit(line: &[u8], at: usize, store: &mut [u8]) -> Reply {
-    let raw = raw_at(line, at, store);
-    let packet = raw.packet;
-    let ends = raw.ends;
-    let start = Script::start(packet, Outcome::Done, 0, raw.next);
-    let end = ends.edits;
-    let script = edited(start, line, store, EDITS, end);
-    tell(script, line, ends)
-}
-
-// Plays a script over the part of the store that is its edit store. No step of a raw one looks at the datagram.
-fn edited(script: Script, line: &[u8], store: &mut [u8], from: usize, to: usize) -> Script {
-    if to < from || store.len() < to {
-        return script;
-    }
-    played(true, script, line, b"", &mut store[from..to])
-}
-
-// The packet as the steps left it, after the refusal that ended them if there is one.
-fn tell(script: Script, line: &[u8], ends: Ends) -> Reply {
-    let packet = script.packet;
-    if 0 < script.refused {
-        let told = head(packet, REFUSED, script.refused);
-        return Reply::showing(told, More::Raw, packet, ends);
-    }
-    if !finished(line, script.next) {
-        return Reply::of(Told::no_request());
-    }
-    Reply::showing(head(packet, RAW, 0), More::Raw, packet, ends)
-}
-
-// The header of a packet, after a word and the number of a refusal, if that is not 0.
-fn head(packet: Packet, word: usize, refused: u64) -> Told {
-    let header = packet.header;
-    let message_type = header.message_type;
-    let class = header.code;
-    let version = header.version as u64;
-    let number = message_type.to_number() as u64;
-    if 0 < refused {
-        let numbers = [refused, version, number, 0];
-        return Told::message(word, 3, numbers, class, header.message_id);
-    }
-    Told::message(word, 2, [version, number, 0, 0], class, header.message_id)
+// Puts the packet as the steps left it.
+fn write_edited(page: &mut Page, held: Held) {
+    let header = held.packet.header;
+    write_version_and_type(page, header);
+    write_class_and_id(page, header);
+    write_raw(page, held);
 }

@@ -2,31 +2,29 @@
 #![tactic(auto)]
 
 mod edited;
-mod reply;
 
-use output::Console;
-use words::{Named, name_at};
+use output::Page;
+use words::Line;
 
-const NAMES: [u8; 17] = *b"get-raw;edit-raw;";
+#[derive(Clone, Copy)]
+pub enum Request {
+    GetRaw,
+    EditRaw,
+}
 
-const GET: usize = 0;
-
-// Which of these requests a line is.
-pub fn named(line: &[u8]) -> Named {
-    name_at(line, 0, &NAMES)
+// Which of these requests a name is.
+pub fn named(name: &[u8]) -> Option<Request> {
+    match name {
+        b"get-raw" => Some(Request::GetRaw),
+        b"edit-raw" => Some(Request::EditRaw),
+        _ => None,
+    }
 }
 
 // Answers a request. The packet's bytes go to the store.
-pub fn answer(
-    console: Console,
-    name: Named,
-    line: &[u8],
-    store: &mut [u8],
-    out: &mut [u8],
-    place: usize,
-) -> usize {
-    if name.index == GET {
-        return edited::get(line, name.next, store).put(console, out, place, line, store);
+pub fn answer(request: Request, line: &mut Line, store: &mut [u8], page: &mut Page) -> Option<()> {
+    match request {
+        Request::GetRaw => edited::get(line, store, page),
+        Request::EditRaw => edited::edit(line, store, page),
     }
-    edited::edit(line, name.next, store).put(console, out, place, line, store)
 }

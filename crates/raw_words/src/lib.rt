@@ -4,5 +4,5 @@
 mod read;
 mod shown;
 
-pub use read::{Ranged, Raw, range_at, raw_at};
-pub use shown::{put_raw, put_records};
+pub use read::{Raw, read_range, read_raw};
+pub use shown::{write_raw, write_records};

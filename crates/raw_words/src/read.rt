@@ -1,103 +1,75 @@
 // Raw packets, read from the words of a line.
-use class_words::header_at;
-use packet::{OptionRecord, Packet, Range};
-use packet_words::{EDITS, Ends, home_at, record, where_fits};
-use words::{NOWHERE, after, byte_at, bytes_at, low16, low32, number_at};
-
-// A range, and where its word ends.
-#[derive(Clone, Copy)]
-pub struct Ranged {
-    pub range: Range,
-    pub next: usize,
-}
+use class_words::read_header;
+use packet::limits::MAX_OPTIONS;
+use packet::{OptionRecord, Packet, Range, Stores};
+use packet_words::{EDITS, Held, read_home, record};
+use words::{Line, separator};
 
 // Reads START+LENGTH, with the mark of its store before it.
-pub fn range_at(line: &[u8], at: usize, before: u8) -> Ranged {
-    let named = home_at(line, at, before);
-    let home = named.home;
-    let start = number_at(line, named.at, named.before, 4294967295);
-    let len = number_at(line, start.next, b'+', 4294967295);
-    Ranged {
-        range: Range {
-            home,
-            start: low32(start.value),
-            len: low32(len.value),
-        },
-        next: len.next,
-    }
+pub fn read_range(line: &mut Line, before: u8) -> Option<Range> {
+    Some(Range {
+        home: read_home(line, before)?,
+        start: line.number_here(u64::MAX)?,
+        len: line.number(b'+')?,
+    })
 }
 
-// A raw packet, where its two stores end, and where its last word ends.
-#[derive(Clone, Copy)]
-pub struct Raw {
+// A raw packet, and its two stores.
+#[derive(Drop)]
+pub struct Raw<'s> {
     pub packet: Packet,
-    pub ends: Ends,
-    pub next: usize,
+    pub datagram: &'s [u8],
+    pub edits: &'s mut [u8],
+}
+
+impl Raw<'_> {
+    pub fn held(&self) -> Held<'_> {
+        Held {
+            packet: self.packet,
+            stores: Stores {
+                datagram: self.datagram,
+                edits: self.edits,
+            },
+        }
+    }
 }
 
 // Reads the words of a raw packet.
-pub fn raw_at(line: &[u8], at: usize, store: &mut [u8]) -> Raw {
-    let head = header_at(line, at);
-    let header = head.header;
-    let datagram = bytes_at(line, head.next, b' ', store, 0);
-    let edits = bytes_at(line, datagram.next, b' ', store, EDITS);
-    let ends = Ends {
-        datagram: datagram.end,
-        edits: edits.end,
-    };
-    let token = range_at(line, edits.next, b' ');
-    let token_range = token.range;
-    let list = records_at(line, token.next);
-    let options = list.records;
-    let count = number_at(line, list.next, b' ', 18446744073709551615);
-    let payload = range_at(line, count.next, b' ');
-    let payload_range = payload.range;
-    Raw {
+pub fn read_raw<'s>(line: &mut Line, store: &'s mut [u8]) -> Option<Raw<'s>> {
+    let (datagram, edits) = store.split_at_mut_checked(EDITS)?;
+    let header = read_header(line)?;
+    let datagram = line.stored(datagram)?;
+    let size = line.bytes(b' ')?.put(edits, 0).ok()?;
+    let token = read_range(line, b' ')?;
+    let options = read_records(line)?;
+    let count = line.number(b' ')?;
+    let payload = read_range(line, b' ')?;
+    Some(Raw {
         packet: Packet {
             header,
-            token: token_range,
-            count: count.value as usize,
+            token,
+            count,
             options,
-            payload: payload_range,
+            payload,
         },
-        ends,
-        next: where_fits(ends, payload.next),
-    }
-}
-
-// The records of a packet, and where their word ends.
-#[derive(Clone, Copy)]
-struct Records {
-    records: [OptionRecord; 128],
-    next: usize,
+        datagram,
+        edits: edits.get_mut(..size)?,
+    })
 }
 
 // Reads a list of records, NUMBER@RANGE with commas between, of which there are at most 128.
-fn records_at(line: &[u8], at: usize) -> Records {
-    let mut records = [OptionRecord::EMPTY; 128];
-    let start = after(line, at, b' ');
-    if byte_at(line, start) == b'-' {
-        return Records {
-            records,
-            next: after(line, start, b'-'),
-        };
+fn read_records(line: &mut Line) -> Option<[OptionRecord; MAX_OPTIONS]> {
+    let mut records = [OptionRecord::EMPTY; MAX_OPTIONS];
+    if line.past(b" -").is_some() {
+        return Some(records);
     }
-    let mut next = at;
-    let mut before = b' ';
-    let mut i = 0;
-    while i < 128 {
-        let number = number_at(line, next, before, 65535);
-        let value = range_at(line, number.next, b'@');
-        records[i] = record(low16(number.value), value.range);
-        next = value.next;
-        before = b',';
-        i = i + 1;
-        if byte_at(line, next) != b',' {
-            return Records { records, next };
+    for i in 0..MAX_OPTIONS {
+        let number = line.number(separator(i))?;
+        let value = read_range(line, b'@')?;
+        records[i] = record(number, value);
+        if !line.is_at(b',') {
+            return Some(records);
         }
     }
-    Records {
-        records,
-        next: NOWHERE,
-    }
+    None
 }

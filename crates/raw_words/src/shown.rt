@@ -1,110 +1,52 @@
 // Raw packets as words of an answer.
-use decimal::put_decimal;
-use lines::put_number;
+use output::Page;
 use packet::{Home, OptionRecord, Packet, Range};
-use packet_words::put_separator;
-use placing::{put_byte, put_bytes};
-use telling::put_value;
+use packet_words::Held;
 
 // Puts what comes after a raw packet's header: its stores, token, records, count and payload.
-pub fn put_raw(
-    out: &mut [u8],
-    place: usize,
-    packet: Packet,
-    datagram: &[u8],
-    edits: &[u8],
-) -> usize {
-    let token = packet.token;
-    let payload = packet.payload;
-    let next = put_store(out, place, datagram);
-    let next = put_store(out, next, edits);
-    let next = put_range(out, next, b' ', token);
-    let next = put_byte(out, next, b' ');
-    let next = put_records(out, next, packet);
-    let next = put_number(out, next, b" ", packet.count as u64);
-    put_range(out, next, b' ', payload)
+pub fn write_raw(page: &mut Page, held: Held) {
+    let packet = held.packet;
+    write_store(page, held.stores.datagram);
+    write_store(page, held.stores.edits);
+    write_range(page, b' ', packet.token);
+    page.byte(b' ');
+    write_records(page, packet);
+    page.number(b" ", packet.count as u64);
+    write_range(page, b' ', packet.payload);
 }
 
-fn put_store(out: &mut [u8], place: usize, store: &[u8]) -> usize {
-    if store.len() == 0 || !are_zeros(store) {
-        return put_value(out, place, store);
+fn write_store(page: &mut Page, store: &[u8]) {
+    if !store.is_empty() && store.iter().all(|byte| *byte == 0) {
+        return page.number(b" zeros:", store.len() as u64);
     }
-    put_number(out, place, b" zeros:", store.len() as u64)
+    page.hex(b" ", store);
 }
 
-fn are_zeros(bytes: &[u8]) -> bool {
-    let mut i = 0;
-    while i < bytes.len() {
-        if bytes[i] != 0 {
-            return false;
-        }
-        i = i + 1;
+fn write_range(page: &mut Page, before: u8, range: Range) {
+    page.byte(before);
+    match range.home {
+        Home::Datagram => {}
+        Home::Edits => page.text(b"e:"),
     }
-    true
-}
-
-fn put_range(out: &mut [u8], place: usize, before: u8, range: Range) -> usize {
-    let home = range.home;
-    let next = put_byte(out, place, before);
-    let next = put_home(out, next, home);
-    let next = put_decimal(out, next, range.start as u64);
-    let next = put_byte(out, next, b'+');
-    put_decimal(out, next, range.len as u64)
-}
-
-// Puts the mark of a range in the edit store.
-fn put_home(out: &mut [u8], place: usize, home: Home) -> usize {
-    match home {
-        Home::Datagram => place,
-        Home::Edits => put_bytes(out, place, b"e:"),
-    }
+    page.number(b"", range.start as u64);
+    page.number(b"+", range.len as u64);
 }
 
 // Puts the records up to the last that is not empty.
-pub fn put_records(out: &mut [u8], place: usize, packet: Packet) -> usize {
-    let options = packet.options;
-    let count = filled_of(packet);
-    if count == 0 {
-        return put_byte(out, place, b'-');
-    }
-    let mut next = place;
-    let mut i = 0;
-    while i < 128 {
-        if count <= i {
-            return next;
-        }
-        next = put_separator(out, next, i);
-        next = put_record(out, next, options[i]);
-        i = i + 1;
-    }
-    next
-}
-
-fn put_record(out: &mut [u8], place: usize, record: OptionRecord) -> usize {
-    let next = put_decimal(out, place, record.number as u64);
-    put_range(out, next, b'@', record.range())
-}
-
-// Whether a record is the empty one.
-fn is_empty(record: OptionRecord) -> bool {
-    let home = record.home;
-    match home {
-        Home::Datagram => record.number == 0 && record.start == 0 && record.len == 0,
-        Home::Edits => false,
-    }
-}
-
-// How many records there are up to the last that is not empty.
-fn filled_of(packet: Packet) -> usize {
-    let options = packet.options;
-    let mut count = 0;
-    let mut i = 0;
-    while i < 128 {
-        let record = options[i];
-        i = i + 1;
-        if !is_empty(record) {
-            count = i;
+pub fn write_records(page: &mut Page, packet: Packet) {
+    let Some(last) = packet.options.iter().rposition(is_filled) else {
+        return page.byte(b'-');
+    };
+    for (i, record) in packet.options.iter().enumerate() {
+        if i <= last {
+            page.separator(i);
+            page.number(b"", record.number as u64);
+            write_range(page, b'@', record.range());
         }
     }
-    count
+}
+
+// Whether a record is not the empty one.
+fn is_filled(record: &OptionRecord) -> bool {
+    record.home == Home::Edits || record.number != 0 || record.start != 0 || record.len != 0
 }

@@ -1,44 +1,64 @@
 // Requests to write a raw packet, and to check one by the register.
 #![tactic(auto)]
 
-mod written;
+use output::Page;
+use packet_requests::{read_limit, write, write_check};
+use raw_words::read_raw;
+use rooms::{fill, write_told};
+use words::Line;
 
-use packet_requests::check;
-use packet_words::EDITS;
-use raw_words::raw_at;
-use telling::Told;
-use words::{Named, finished, name_at, part};
+#[derive(Clone, Copy)]
+pub enum Request {
+    WriteRaw { strict: bool },
+    RegisterRaw,
+}
 
-// The strict form of a name comes right after the plain one.
-const NAMES: [u8; 40] = *b"write-raw;write-raw-strict;register-raw;";
-
-const REGISTER: usize = 2;
-
-// Which of these requests a line is.
-pub fn named(line: &[u8]) -> Named {
-    name_at(line, 0, &NAMES)
+// Which of these requests a name is.
+pub fn named(name: &[u8]) -> Option<Request> {
+    match name {
+        b"write-raw" => Some(Request::WriteRaw { strict: false }),
+        b"write-raw-strict" => Some(Request::WriteRaw { strict: true }),
+        b"register-raw" => Some(Request::RegisterRaw),
+        _ => None,
+    }
 }
 
 // Answers a request. The packet's bytes go to the store, and what is written to the room.
-pub fn answer(name: Named, line: &[u8], store: &mut [u8], room: &mut [u8]) -> Told {
-    if name.index == REGISTER {
-        return register(line, name.next, store, room);
+pub fn answer(
+    request: Request,
+    line: &mut Line,
+    store: &mut [u8],
+    room: &mut [u8],
+    page: &mut Page,
+) -> Option<()> {
+    match request {
+        Request::WriteRaw { strict } => write_raw(strict, line, store, room, page),
+        Request::RegisterRaw => register(line, store, page),
     }
-    written::write(name.index == 1, line, name.next, store, room)
+}
+
+// write-raw LIMIT ROOM RAW, to an output whose bytes are known before
+fn write_raw(
+    strict: bool,
+    line: &mut Line,
+    store: &mut [u8],
+    room: &mut [u8],
+    page: &mut Page,
+) -> Option<()> {
+    let limit = read_limit(line)?;
+    let room = line.room(room)?;
+    let raw = read_raw(line, store)?;
+    line.finished()?;
+    fill(room);
+    let written = write(strict, limit, raw.held(), room);
+    write_told(page, written, room);
+    Some(())
 }
 
 // register-raw RAW
-fn register(line: &[u8], at: usize, store: &mut [u8], room: &mut [u8]) -> Told {
-    let raw = raw_at(line, at, store);
-    let packet = raw.packet;
-    let ends = raw.ends;
-    if !finished(line, raw.next) {
-        return Told::no_request();
-    }
-    check(
-        packet,
-        part(store, 0, ends.datagram),
-        part(store, EDITS, ends.edits),
-        room,
-    )
+fn register(line: &mut Line, store: &mut [u8], page: &mut Page) -> Option<()> {
+    let raw = read_raw(line, store)?;
+    line.finished()?;
+    write_check(page, raw.held());
+    Some(())
 }

@@ -1,14 +1,15 @@
 -- Reading a datagram, plain and strict: the order of refusals, and the packet of an accepted one.
-use Rattle.std.specs.Prelude.{ℕ, ◌+◌, ◌-◌, ◌≡◌, Bool, not, List, ◌++◌, length, replicate, ltb, eqb}
+use Rattle.std.specs.Prelude.{ℕ, ◌+◌, ◌-◌, ◌≡◌, Bool, not, List, ◌++◌, length, replicate, ltb, eqb, Result, Ok, Err}
 use Rattle.ground.specs.Choice.{pick, both, either}
-use Rattle.refusal.specs.Answer.{Answer, given, refused, onward, outcome, Beside, beside}
+use Rattle.refusal.specs.Answer.{Answer, given, refused, onward, Beside, beside}
+use Rattle.refusal.specs.Number.{number_of}
+use Rattle.refusal.specs.declared.Refusal.{Refusal}
 use Rattle.header.specs.Header.{version_of, token_of, header_of, raw_in}
 use Rattle.header.specs.declared.HeaderRaw.{HeaderRaw}
 use Rattle.packet.specs.Limits.{max_store, max_options, max_value, max_plain_value}
 use Rattle.packet.specs.Packet.{none, in_datagram, new_packet}
 use Rattle.packet.specs.declared.Packet.{Packet}
 use Rattle.reading.specs.Options.{Tail, options}
-use Rattle.reading.specs.declared.Decoded.{Decoded}
 
 -- The longest value of an option: 65535 bytes plain, 65804 strict.
 abbrev pub longest : Bool → ℕ
@@ -43,10 +44,11 @@ after_header strict s raw =
 unfoldable pub reading : Bool → List ℕ → Answer Packet
 reading strict s = pick (ltb max_store (length s)) (refused 10) (onward (raw_in s) (after_header strict s))
 
--- The answer of a reader: how it ended, and the packet beside it.
-abbrev pub decoded : Decoded → Beside Packet
-decoded d = record { answer = outcome d.outcome; value = d.packet }
+-- The answer of a reader: how it ended, and the packet beside it, which is the new packet beside a refusal.
+abbrev pub decoded : Result Packet Refusal → Beside Packet
+decoded (Ok p) = record { answer = given tt; value = p }
+decoded (Err e) = record { answer = refused (number_of e); value = new_packet }
 
 -- What reading promises: an accepted datagram gives its packet; beside a refusal stands the new packet.
-abbrev pub FromBytes : Bool → List ℕ → Decoded → Type 0
+abbrev pub FromBytes : Bool → List ℕ → Result Packet Refusal → Type 0
 FromBytes strict s d = decoded d ≡ beside new_packet (reading strict s)

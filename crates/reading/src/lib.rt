@@ -1,53 +1,39 @@
 // Reading a datagram to a packet, plain and strict (Packet::from_bytes of packet.rs).
 #![tactic(auto)]
 
-ghost use Rattle.std.specs.Prelude.{◌≡◌, Bool, not, eqb, ltb, ◌-◌, ◌≤◌, ◌<◌, length};
+ghost use Rattle.std.specs.Prelude.{◌≡◌, Bool, not, eqb, ltb, ◌-◌, ◌≤◌};
 ghost use Rattle.ground.specs.Choice.{both, either};
-ghost use Rattle.refusal.specs.Answer.{refused, beside};
-ghost use Rattle.refusal.specs.Number.{number_of};
 ghost use Rattle.header.specs.Header.{raw_read, header_of, token_of};
 ghost use Rattle.reading.specs.Headed.{good_header, headed};
-ghost use Rattle.packet.specs.Packet.{in_datagram, new_packet};
-ghost use Rattle.reading.specs.Reading.{decoded, FromBytes, longest};
+ghost use Rattle.packet.specs.Packet.{in_datagram};
+ghost use Rattle.reading.specs.Reading.{FromBytes, longest};
 
-use header::{Header, HeaderRaw, RawRead};
+use header::{Header, HeaderRaw};
 use option_reading::{Found, place_at};
 use packet::limits::{MAX_OPTIONS, MAX_PLAIN_VALUE, MAX_STORE, MAX_VALUE};
 use packet::{Home, OptionRecord, Packet, Range};
-use refusal::{Outcome, Refusal};
-
-// What reading answers. The packet of a refused datagram is the new packet.
-#[derive(Clone, Copy)]
-pub struct Decoded {
-    pub outcome: Outcome,
-    pub packet: Packet,
-}
+use refusal::Refusal;
 
 // Decodes a datagram, as the Rust does.
-pub fn from_bytes(buf: &[u8]) -> Decoded
+pub fn from_bytes(buf: &[u8]) -> Result<Packet, Refusal>
     ensures { FromBytes Bool.false buf.now result }
 {
     from_bytes_in(false, buf)
 }
 
 // Decodes a datagram that is the layout of a well-formed message, and refuses every other.
-pub fn from_bytes_strict(buf: &[u8]) -> Decoded
+pub fn from_bytes_strict(buf: &[u8]) -> Result<Packet, Refusal>
     ensures { FromBytes Bool.true buf.now result }
 {
     from_bytes_in(true, buf)
 }
 
-// Either of them, with the mode as an argument. The packet is made here alone: a function that hands a `Decoded` on
+// Either of them, with the mode as an argument. The packet is made here alone: a function that hands the answer on
 // copies it.
-pub fn from_bytes_in(strict: bool, buf: &[u8]) -> Decoded
+pub fn from_bytes_in(strict: bool, buf: &[u8]) -> Result<Packet, Refusal>
     ensures { FromBytes strict buf.now result }
 {
-    let raw = match opening(strict, buf) {
-        RawRead::Refused(e) => {
-            return refused(e);
-        }
-        RawRead::Raw(raw) => raw,
-    };
+    let raw = opening(strict, buf)?;
     let token_length = raw.token_length();
     let most = longest_value(strict);
     let mut records = [OptionRecord::EMPTY; MAX_OPTIONS];
@@ -55,22 +41,16 @@ pub fn from_bytes_in(strict: bool, buf: &[u8]) -> Decoded
     let mut number: u16 = 0;
     let mut idx = 4 + token_length as usize;
     loop {
-        match place_at(most, buf, number, idx) {
-            Found::Refused(e) => {
-                return refused(e);
-            }
+        match place_at(most, buf, number, idx)? {
             Found::End { marked, payload } => {
                 if marker_alone(strict, marked, payload, buf.len()) {
-                    return refused(Refusal::MarkerAlone);
+                    return Err(Refusal::MarkerAlone);
                 }
-                return Decoded {
-                    outcome: Outcome::Done,
-                    packet: packet_of(raw, count, records, payload, buf.len()),
-                };
+                return Ok(packet_of(raw, count, records, payload, buf.len()));
             }
             Found::Option(r) => {
                 if MAX_OPTIONS <= count {
-                    return refused(Refusal::TooManyOptions);
+                    return Err(Refusal::TooManyOptions);
                 }
                 records[count] = r;
                 count = count + 1;
@@ -109,47 +89,35 @@ fn packet_of(
     }
 }
 
-// A refused datagram.
-fn refused(e: Refusal) -> Decoded
-    ensures { decoded result ≡ beside new_packet (refused (number_of e)) }
-{
-    Decoded {
-        outcome: Outcome::Refused(e),
-        packet: Packet::new(),
-    }
-}
-
 // The header of a datagram that is refused for nothing before its options.
-pub fn opening(strict: bool, buf: &[u8]) -> RawRead
+pub fn opening(strict: bool, buf: &[u8]) -> Result<HeaderRaw, Refusal>
     ensures { raw_read result ≡ headed strict buf.now }
 {
     if MAX_STORE < buf.len() {
-        return RawRead::Refused(Refusal::TooLong);
+        return Err(Refusal::TooLong);
     }
-    match HeaderRaw::try_from(buf) {
-        RawRead::Refused(e) => RawRead::Refused(e),
-        RawRead::Raw(raw) => after_header(strict, buf, raw),
-    }
+    let raw = HeaderRaw::try_from(buf)?;
+    after_header(strict, buf, raw)
 }
 
 // Version, token and emptiness.
-fn after_header(strict: bool, buf: &[u8], raw: HeaderRaw) -> RawRead
+fn after_header(strict: bool, buf: &[u8], raw: HeaderRaw) -> Result<HeaderRaw, Refusal>
     ensures { raw_read result ≡ good_header strict buf.now raw }
 {
     let token_length = raw.token_length() as usize;
     if wrong_version(strict, raw.version()) {
-        return RawRead::Refused(Refusal::WrongVersion);
+        return Err(Refusal::WrongVersion);
     }
     if 8 < token_length {
-        return RawRead::Refused(Refusal::InvalidTokenLength);
+        return Err(Refusal::InvalidTokenLength);
     }
     if buf.len() < 4 + token_length {
-        return RawRead::Refused(Refusal::InvalidTokenLength);
+        return Err(Refusal::InvalidTokenLength);
     }
     if empty_carries(strict, raw.code, buf.len(), token_length) {
-        return RawRead::Refused(Refusal::EmptyCarries);
+        return Err(Refusal::EmptyCarries);
     }
-    RawRead::Raw(raw)
+    Ok(raw)
 }
 
 fn wrong_version(strict: bool, version: u8) -> bool

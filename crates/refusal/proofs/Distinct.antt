@@ -3,13 +3,10 @@ use Prim.Native.Nat.{ℕ}
 use mathlib.Core.Path.{◌≡◌, refl, sym, ap, ◌∙◌}
 use mathlib.Core.List.{List, [], ◌∷◌, map}
 use lib.Dec.{T, eqb}
+use Rattle.std.specs.Prelude.{Result, Ok, Err}
 use Rattle.ground.specs.Choice.{pick}
 use Rattle.ground.specs.Table.{listed}
 use Rattle.refusal.specs.Answer.{written, outcome}
-use Rattle.refusal.specs.declared.Written.{Written}
-use Rattle.refusal.specs.declared.Written.TheVariants.{Length, Refused}
-use Rattle.refusal.specs.declared.Outcome.{Outcome}
-use Rattle.refusal.specs.declared.Outcome.TheVariants.{Done, Refused as Not}
 use Rattle.refusal.specs.Number.{number_of, refusals, numbers}
 use Rattle.refusal.specs.declared.Refusal.{Refusal}
 use Rattle.refusal.specs.declared.Refusal.TheVariants.{InvalidHeader, InvalidTokenLength, InvalidOptionDelta, InvalidOptionLength, InvalidPacketLength, TooManyOptions, WrongVersion, EmptyCarries, MarkerAlone, TooLong, BadRecord, NoRoom, BadUint, BadBlockSize, BadText, BadOption, BlockNumber, BadFreeze, BadFrame, ClockBack, BadPlan}
@@ -55,14 +52,14 @@ pub numbers_are : map number_of refusals ≡ numbers
 numbers_are = refl
 
 -- An answer in the words of the promises is that of one value only.
-pub one_written : (a b : Written) → written a ≡ written b → a ≡ b
-one_written (Length m) (Length n) e = cc
-one_written (Length m) (Refused y) e = cc
-one_written (Refused x) (Length n) e = cc
-one_written (Refused x) (Refused y) e = let k : number_of x ≡ number_of y = cc in rw (distinct x y k)
+pub one_written : (a b : Result ℕ Refusal) → written a ≡ written b → a ≡ b
+one_written (Ok m) (Ok n) e = cc
+one_written (Ok m) (Err y) e = cc
+one_written (Err x) (Ok n) e = cc
+one_written (Err x) (Err y) e = let k : number_of x ≡ number_of y = cc in rw (distinct x y k)
 
-pub one_outcome : (a b : Outcome) → outcome a ≡ outcome b → a ≡ b
-one_outcome Done Done e = refl
-one_outcome Done (Not y) e = cc
-one_outcome (Not x) Done e = cc
-one_outcome (Not x) (Not y) e = let k : number_of x ≡ number_of y = cc in rw (distinct x y k)
+pub one_outcome : (a b : Result (Unit {0}) Refusal) → outcome a ≡ outcome b → a ≡ b
+one_outcome (Ok u) (Ok v) e = refl
+one_outcome (Ok u) (Err y) e = cc
+one_outcome (Err x) (Ok v) e = cc
+one_outcome (Err x) (Err y) e = let k : number_of x ≡ number_of y = cc in rw (distinct x y k)

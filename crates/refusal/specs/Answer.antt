@@ -1,12 +1,9 @@
 -- What an operation answers, in the words of the promises: a value, or a refusal's number.
-use Rattle.std.specs.Prelude.{ℕ, ◌+◌, List, length, ltb}
+use Rattle.std.specs.Prelude.{ℕ, ◌+◌, List, length, ltb, Result, Ok, Err}
 use Rattle.std.proofs.lemmas.List.Edits.{sets}
 use Rattle.ground.specs.Choice.{pick}
 use Rattle.refusal.specs.Number.{number_of}
-use Rattle.refusal.specs.declared.Written.{Written}
-use Rattle.refusal.specs.declared.Written.TheVariants.{Length, Refused}
-use Rattle.refusal.specs.declared.Outcome.{Outcome}
-use Rattle.refusal.specs.declared.Outcome.TheVariants.{Done, Refused as Not}
+use Rattle.refusal.specs.declared.Refusal.{Refusal}
 
 pub data Answer (A : Type 0) : Type 0 where
   given : A → Answer A
@@ -18,14 +15,14 @@ onward (given a) next = next a
 onward (refused k) next = refused k
 
 -- The answer of a writer: the length of what it wrote.
-abbrev pub written : Written → Answer ℕ
-written (Length n) = given n
-written (Refused e) = refused (number_of e)
+abbrev pub written : Result ℕ Refusal → Answer ℕ
+written (Ok n) = given n
+written (Err e) = refused (number_of e)
 
 -- The answer of an operation with no value of its own.
-abbrev pub outcome : Outcome → Answer (Unit {0})
-outcome Done = given tt
-outcome (Not e) = refused (number_of e)
+abbrev pub outcome : Result (Unit {0}) Refusal → Answer (Unit {0})
+outcome (Ok u) = given tt
+outcome (Err e) = refused (number_of e)
 
 -- Bytes for an output with this much room: their length, or NoRoom (12).
 abbrev pub fitted : ℕ → List ℕ → Answer ℕ

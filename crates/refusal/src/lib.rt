@@ -3,10 +3,14 @@
 
 ghost use Rattle.std.specs.Prelude.{◌≡◌};
 ghost use Rattle.refusal.specs.Number.{number_of};
+ghost use Rattle.refusal.specs.declared.Fault.TheVariants.{Refused};
+
+use std::error::Error;
+use std::fmt;
 
 // Why an operation answers no value, and above each when it is given, exactly. What else a refusal carries, as the index of a
-// bad record, stands in the answer that gives it.
-#[derive(Clone, Copy)]
+// bad record, stands in the error that holds it, as in `Fault`.
+#[derive(Clone, Copy, Debug, PartialEq, Eq)]
 pub enum Refusal {
     // There are fewer than 4 bytes to read.
     InvalidHeader,
@@ -96,16 +100,26 @@ impl Refusal {
     }
 }
 
-// What writing into a lent output answers: how many bytes stand there now, from its start; or why nothing was written.
-#[derive(Clone, Copy)]
-pub enum Written {
-    Length(usize),
-    Refused(Refusal),
+// Its name, as `BadText`.
+impl fmt::Display for Refusal {
+    fn fmt<W: fmt::Write>(&self, f: &mut fmt::Formatter<W>) -> fmt::Result {
+        write!(f, "{self:?}")
+    }
 }
 
-// What an operation answers that has no value of its own.
-#[derive(Clone, Copy)]
-pub enum Outcome {
-    Done,
+impl Error for Refusal {}
+
+// Why options are refused: by a refusal of the whole, or by one of them that is bad, of which the index is told, from 0.
+#[derive(Clone, Copy, Debug, PartialEq, Eq)]
+pub enum Fault {
     Refused(Refusal),
+    BadOption(usize),
+}
+
+impl From<Refusal> for Fault {
+    ghost from_gives = { λ r e. e ≡ Refused r };
+
+    fn from(refusal: Refusal) -> Fault {
+        Fault::Refused(refusal)
+    }
 }

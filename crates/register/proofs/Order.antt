@@ -1,8 +1,10 @@
 -- What comes before the records are looked at: 10, then 11; and what an answer reports beside what it says.
+use Prim.Native.Nat.{ℕ}
 use mathlib.Core.Path.{◌≡◌, refl, sym, ap, subst, ◌∙◌}
-use mathlib.Core.Bool.{true, false}
+use mathlib.Core.Bool.{Bool, true, false}
 use mathlib.Core.Logic.{◌⊎◌, inl, inr}
 use mathlib.Core.List.{List, []}
+use native.Mathlib.Omega.{arith}
 use lib.ListN.{replicate}
 use Rattle.ground.proofs.Choice.{on}
 use Rattle.rfc.specs.Recognised.{Fate}
@@ -15,9 +17,9 @@ use Rattle.packet.specs.declared.Packet.{Packet}
 use Rattle.judging.specs.declared.Lengths.{Lengths}
 use Rattle.register.specs.Check.{Check, passes, refused, refused_at, Report, if_in_order, checking, fates, marks, reported, told, checked, Checks}
 use Rattle.register.specs.First.{Sound}
-use Rattle.register.specs.declared.Checked.{Checked}
-use Rattle.register.specs.declared.Verdict.{Verdict}
-use Rattle.register.specs.declared.Verdict.TheVariants.{Passes, Refused, BadOption}
+use Rattle.std.specs.Prelude.{Result, Ok, Err}
+use Rattle.refusal.specs.declared.Fault.{Fault}
+use Rattle.refusal.specs.declared.Fault.TheVariants.{Refused, BadOption}
 
 -- An answer that is given of the records alone.
 abbrev pub OfRecords : Check → Type 0
@@ -70,42 +72,43 @@ answer_of passes fs = refl
 answer_of (refused k) fs = refl
 answer_of (refused_at k i) fs = refl
 
--- A verdict in the words of the promise is one value's only, and so is an answer.
-pub one_told : (a b : Verdict) → told a ≡ told b → a ≡ b
-one_told Passes Passes e = refl
-one_told Passes (Refused y) e = cc
-one_told Passes (BadOption j) e = cc
-one_told (Refused x) Passes e = cc
+-- A fault in the words of the promise is one value's only, and so is an answer.
+pub one_told : (a b : Fault) → told a ≡ told b → a ≡ b
 one_told (Refused x) (Refused y) e = let k : number_of x ≡ number_of y = cc in rw (distinct x y k)
 one_told (Refused x) (BadOption j) e = cc
-one_told (BadOption i) Passes e = cc
 one_told (BadOption i) (Refused y) e = cc
 one_told (BadOption i) (BadOption j) e = cc
 
-pub one_checked : (x y : Checked) → checked x ≡ checked y → x ≡ y
-one_checked x y e =
-    let o = one_told x.outcome y.outcome (ap (λ (r : Report). r.answer) e) in
-    λ i. record { outcome = o i; kept = ap (λ (r : Report). r.kept) e i }
+-- A fault is told as no packet's that passes.
+told_apart : (e : Fault) → told e ≡ passes → ⊥
+told_apart (Refused x) e = let no : ◌≡◌ {A = ℕ} 0 1 = cc in omega arith
+told_apart (BadOption i) e = let no : ◌≡◌ {A = ℕ} 0 1 = cc in omega arith
 
-module _ (lengths : Lengths) (p : Packet) (c : Checked) (promise : Checks lengths p c) where
-  -- The outcome is what the check says, and the check's is the outcome.
-  pub says : told c.outcome ≡ checking lengths p
+pub one_checked : (x y : Result (List Bool) Fault) → checked x ≡ checked y → x ≡ y
+one_checked (Ok x) (Ok y) e = ap Ok (ap (λ (r : Report). r.kept) e)
+one_checked (Ok x) (Err f) e = absurd (told_apart f (sym (ap (λ (r : Report). r.answer) e)))
+one_checked (Err f) (Ok y) e = absurd (told_apart f (ap (λ (r : Report). r.answer) e))
+one_checked (Err f) (Err g) e = ap Err (one_told f g (ap (λ (r : Report). r.answer) e))
+
+module _ (lengths : Lengths) (p : Packet) (c : Result (List Bool) Fault) (promise : Checks lengths p c) where
+  -- The answer says what the check says.
+  pub says : (checked c).answer ≡ checking lengths p
   says = ap (λ (r : Report). r.answer) promise ∙ answer_of (checking lengths p) (fates [] (records_of p))
 
-  pub outcome_is : (v : Verdict) → checking lengths p ≡ told v → c.outcome ≡ v
-  outcome_is v e = one_told c.outcome v (says ∙ e)
+  pub outcome_is : (a : Check) → checking lengths p ≡ a → (checked c).answer ≡ a
+  outcome_is a e = says ∙ e
 
   -- A packet that passes has the kept records marked.
-  pub marked : c.outcome ≡ Passes → c.kept ≡ marks (fates [] (records_of p))
+  pub marked : (checked c).answer ≡ passes → (checked c).kept ≡ marks (fates [] (records_of p))
   marked e =
-      let passed : checking lengths p ≡ passes = sym says ∙ ap told e in
+      let passed : checking lengths p ≡ passes = sym says ∙ e in
       ap (λ (r : Report). r.kept) (promise ∙ ap (λ (a : Check). reported a (fates [] (records_of p))) passed)
 
   -- Beside a refusal nothing is kept.
-  pub none_kept : (c.outcome ≡ Passes) ⊎ (c.kept ≡ replicate max_options false)
+  pub none_kept : ((checked c).answer ≡ passes) ⊎ ((checked c).kept ≡ replicate max_options false)
   none_kept = go (checking lengths p) refl
     where
-      go : (a : Check) → checking lengths p ≡ a → (c.outcome ≡ Passes) ⊎ (c.kept ≡ replicate max_options false)
-      go passes e = inl (outcome_is Passes e)
+      go : (a : Check) → checking lengths p ≡ a → ((checked c).answer ≡ passes) ⊎ ((checked c).kept ≡ replicate max_options false)
+      go passes e = inl (outcome_is passes e)
       go (refused k) e = inr (ap (λ (r : Report). r.kept) (promise ∙ ap (λ (a : Check). reported a (fates [] (records_of p))) e))
       go (refused_at k i) e = inr (ap (λ (r : Report). r.kept) (promise ∙ ap (λ (a : Check). reported a (fates [] (records_of p))) e))

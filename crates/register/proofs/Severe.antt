@@ -19,8 +19,7 @@ use Rattle.register.specs.Register.{register, row_in, is_row, registered, defini
 use Rattle.register.specs.Check.{Check, passes, refused_at, recognised_after, keeping, fates, first_rejected, is_kept, marks}
 use Rattle.register.specs.Severe.{breaks_row, breaks_listing, breaks, first_break}
 use Rattle.register.specs.declared.row.Row.{Row}
-use Rattle.register.specs.declared.row.Listing.{Listing}
-use Rattle.register.specs.declared.row.Listing.TheVariants.{Listed, Unlisted}
+use Rattle.std.specs.Prelude.{Option, Some, None}
 use Rattle.register.proofs.First.{mark_in}
 use Rattle.register.proofs.Walk.{listed_more, either_false}
 
@@ -28,19 +27,19 @@ use Rattle.register.proofs.Walk.{listed_more, either_false}
 keeps_row : (r : Row) (len : ℕ) (again : Bool) → breaks_row r len again ≡ false → recognised (definition_of r) len again ≡ true
 unfolding recognised
 keeps_row r len again e =
-    let short = neither (ltb len r.1) _ e in
-    let long = neither (ltb r.2 len) _ short.1 in
-    rw (le-leb r.1 len (ltb-false len r.1 short.0), le-leb len r.2 (ltb-false r.2 len long.0), long.1)
+    let short = neither (ltb len r.shortest) _ e in
+    let long = neither (ltb r.longest len) _ short.1 in
+    rw (le-leb r.shortest len (ltb-false len r.shortest short.0), le-leb len r.longest (ltb-false r.longest len long.0), long.1)
 
 -- A record that doesn't break the register is kept where it is listed, and else passed over.
-spared_by : (l : Listing) (number len : ℕ) (again before : Bool) → (is_row l ≡ true → before ≡ again) → breaks_listing l number len again ≡ false
+spared_by : (l : Option Row) (number len : ℕ) (again before : Bool) → (is_row l ≡ true → before ≡ again) → breaks_listing l number len again ≡ false
     → recognised_by l len before ≡ is_row l
-spared_by (Listed r) number len again before f e = ap (recognised (definition_of r) len) (f refl) ∙ keeps_row r len again e
-spared_by Unlisted number len again before f e = refl
+spared_by (Some r) number len again before f e = ap (recognised (definition_of r) len) (f refl) ∙ keeps_row r len again e
+spared_by None number len again before f e = refl
 
-elective_by : (l : Listing) (number len : ℕ) (again : Bool) → breaks_listing l number len again ≡ false → is_row l ≡ false → critical number ≡ false
-elective_by (Listed r) number len again e z = cc
-elective_by Unlisted number len again e z = e
+elective_by : (l : Option Row) (number len : ℕ) (again : Bool) → breaks_listing l number len again ≡ false → is_row l ≡ false → critical number ≡ false
+elective_by (Some r) number len again e z = cc
+elective_by None number len again e z = e
 
 -- The kept records and the earlier ones have the same listed numbers.
 abbrev Agree : List ℕ → List ℕ → Type 0

@@ -1,10 +1,12 @@
 -- The check of a packet's options (docs/RULES.md, Register): the order of its refusals, what becomes of each record, and what
 -- is reported.
-use Rattle.std.specs.Prelude.{ℕ, ◌+◌, ◌-◌, ◌≡◌, Bool, true, false, List, [], ◌∷◌, ◌++◌, map, length, replicate}
+use Rattle.std.specs.Prelude.{ℕ, ◌+◌, ◌-◌, ◌≡◌, Bool, true, false, List, [], ◌∷◌, ◌++◌, map, length, replicate, Result, Ok, Err}
 use Rattle.ground.specs.Choice.{pick}
 use Rattle.ground.specs.Table.{listed}
 use Rattle.rfc.specs.Recognised.{Fate, kept, ignored, rejected, fate}
 use Rattle.refusal.specs.Number.{number_of}
+use Rattle.refusal.specs.declared.Fault.{Fault}
+use Rattle.refusal.specs.declared.Fault.TheVariants.{Refused, BadOption}
 use Rattle.packet.specs.Limits.{max_options}
 use Rattle.packet.specs.Packet.{records_of}
 use Rattle.judging.specs.Judge.{is_too_long, bad_packet}
@@ -12,9 +14,6 @@ use Rattle.packet.specs.declared.Packet.{Packet}
 use Rattle.judging.specs.declared.Lengths.{Lengths}
 use Rattle.packet.specs.declared.OptionRecord.{OptionRecord}
 use Rattle.register.specs.Register.{is_recognised}
-use Rattle.register.specs.declared.Checked.{Checked}
-use Rattle.register.specs.declared.Verdict.{Verdict}
-use Rattle.register.specs.declared.Verdict.TheVariants.{Passes, Refused, BadOption}
 
 -- A record is recognised after kept ones of these numbers.
 abbrev pub recognised_after : List ℕ → OptionRecord → Bool
@@ -79,16 +78,16 @@ reported (refused_at k i) fs = nothing_kept (refused_at k i)
 abbrev pub sorted : List Fate → Report
 sorted fs = reported (first_rejected 0 fs) fs
 
--- What a verdict says: BadOption is 16, and it alone names a record.
-abbrev pub told : Verdict → Check
-told Passes = passes
+-- What a fault says: a bad option is 16, and it alone names a record.
+abbrev pub told : Fault → Check
 told (Refused e) = refused (number_of e)
 told (BadOption i) = refused_at 16 i
 
 -- What an answer reports.
-abbrev pub checked : Checked → Report
-checked c = record { answer = told c.outcome; kept = c.kept }
+abbrev pub checked : Result (List Bool) Fault → Report
+checked (Ok ks) = record { answer = passes; kept = ks }
+checked (Err e) = nothing_kept (told e)
 
 -- What the check promises of its answer.
-abbrev pub Checks : Lengths → Packet → Checked → Type 0
+abbrev pub Checks : Lengths → Packet → Result (List Bool) Fault → Type 0
 Checks lengths p c = checked c ≡ reported (checking lengths p) (fates [] (records_of p))

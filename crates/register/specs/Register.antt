@@ -1,15 +1,14 @@
 -- The register of options: the listed numbers with the lengths of their values, and which records are recognised.
-use Rattle.std.specs.Prelude.{ℕ, Bool, true, false, List, [], ◌∷◌, eqb}
+use Rattle.std.specs.Prelude.{ℕ, Bool, true, false, List, [], ◌∷◌, eqb, Option, Some, None}
 use Rattle.ground.specs.Choice.{pick}
 use Rattle.rfc.specs.Recognised.{Definition, recognised}
 use Rattle.packet.specs.declared.OptionRecord.{OptionRecord}
 use Rattle.register.specs.declared.row.Row.{Row}
-use Rattle.register.specs.declared.row.Listing.{Listing}
-use Rattle.register.specs.declared.row.Listing.TheVariants.{Listed, Unlisted}
 
 -- A row: a number, its shortest and its longest value, and whether it is repeatable.
 abbrev pub row : ℕ → ℕ → ℕ → Bool → Row
-row number shortest longest repeatable = record { 0 = number; 1 = shortest; 2 = longest; 3 = repeatable }
+row number shortest longest repeatable =
+    record { number = number; shortest = shortest; longest = longest; repeatable = repeatable }
 
 -- The listed numbers and value lengths; 1, 4, 8, 11, 15 and 20 are repeatable.
 unfoldable pub register : List Row
@@ -39,14 +38,14 @@ abbrev pub no_row : Row
 no_row = row 0 0 0 false
 
 -- The row of a number among rows.
-abbrev pub row_in : ℕ → List Row → Listing
-row_in n [] = Unlisted
-row_in n (r ∷ rs) = pick (eqb r.0 n) (Listed r) (row_in n rs)
+abbrev pub row_in : ℕ → List Row → Option Row
+row_in n [] = None
+row_in n (r ∷ rs) = pick (eqb r.number n) (Some r) (row_in n rs)
 
 -- A listing is that of a listed number.
-abbrev pub is_row : Listing → Bool
-is_row (Listed r) = true
-is_row Unlisted = false
+abbrev pub is_row : Option Row → Bool
+is_row (Some r) = true
+is_row None = false
 
 -- The register lists the number.
 unfoldable pub registered : ℕ → Bool
@@ -54,12 +53,12 @@ registered n = is_row (row_in n register)
 
 -- What a row defines of its option.
 abbrev pub definition_of : Row → Definition
-definition_of r = record { shortest = r.1; longest = r.2; repeatable = r.3 }
+definition_of r = record { shortest = r.shortest; longest = r.longest; repeatable = r.repeatable }
 
 -- What a listing says of a record: one that is listed goes by its definition, and no other is recognised.
-abbrev pub recognised_by : Listing → ℕ → Bool → Bool
-recognised_by (Listed r) len before = recognised (definition_of r) len before
-recognised_by Unlisted len before = false
+abbrev pub recognised_by : Option Row → ℕ → Bool → Bool
+recognised_by (Some r) len before = recognised (definition_of r) len before
+recognised_by None len before = false
 
 -- A record is recognised, where `before` says that a kept record before it has its number.
 unfoldable pub is_recognised : Bool → OptionRecord → Bool

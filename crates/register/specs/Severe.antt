@@ -1,6 +1,6 @@
 -- The severe rule: any record that breaks the register is refused, an elective one of a bad length and a surplus one too. It is here
 -- for what the check lets pass beside it.
-use Rattle.std.specs.Prelude.{ℕ, Bool, not, List, [], ◌∷◌, ◌++◌, length, ltb}
+use Rattle.std.specs.Prelude.{ℕ, Bool, not, List, [], ◌∷◌, ◌++◌, length, ltb, Option, Some, None}
 use Rattle.ground.specs.Choice.{pick, both, either}
 use Rattle.ground.specs.Table.{listed}
 use Rattle.rfc.specs.Option.{critical}
@@ -11,17 +11,15 @@ use Rattle.packet.specs.declared.OptionRecord.{OptionRecord}
 use Rattle.register.specs.Register.{register, row_in}
 use Rattle.register.specs.Check.{Check, passes, refused_at, if_in_order}
 use Rattle.register.specs.declared.row.Row.{Row}
-use Rattle.register.specs.declared.row.Listing.{Listing}
-use Rattle.register.specs.declared.row.Listing.TheVariants.{Listed, Unlisted}
 
 -- A record breaks its row: its value is too short or too long, or it is the second of a number not repeatable.
 abbrev pub breaks_row : Row → ℕ → Bool → Bool
-breaks_row r len again = either (ltb len r.1) (either (ltb r.2 len) (both again (not r.3)))
+breaks_row r len again = either (ltb len r.shortest) (either (ltb r.longest len) (both again (not r.repeatable)))
 
 -- What a listing says of a record of the number: an unlisted critical one breaks the register, an unlisted elective one passes.
-abbrev pub breaks_listing : Listing → ℕ → ℕ → Bool → Bool
-breaks_listing (Listed r) number len again = breaks_row r len again
-breaks_listing Unlisted number len again = critical number
+abbrev pub breaks_listing : Option Row → ℕ → ℕ → Bool → Bool
+breaks_listing (Some r) number len again = breaks_row r len again
+breaks_listing None number len again = critical number
 
 -- A record breaks the register, where `again` says that an earlier record has its number.
 unfoldable pub breaks : Bool → OptionRecord → Bool

@@ -3,15 +3,15 @@
 
 ghost use Rattle.std.specs.Prelude.{◌≡◌, Bool, [], ◌≤◌};
 ghost use Rattle.rfc.specs.Option.{critical, unsafe, no_cache_key};
-ghost use Rattle.packet.specs.Packet.{stores, records_of};
+ghost use Rattle.packet.specs.Packet.{held, records_of};
 ghost use Rattle.packet.specs.Limits.{max_options};
 ghost use Rattle.judging.specs.Judge.{lengths_of, falling};
-ghost use Rattle.register.specs.Check.{told, nothing_kept, checked, fates, sorted, Checks};
+ghost use Rattle.register.specs.Check.{checked, fates, sorted, Checks};
 
-use judging::{Judged, Lengths};
-use packet::Packet;
+use judging::Lengths;
 use packet::limits::MAX_OPTIONS;
-use refusal::Refusal;
+use packet::{Packet, Stores};
+use refusal::{Fault, Refusal};
 use row::is_recognised;
 
 mod row;
@@ -37,72 +37,34 @@ pub fn is_no_cache_key(number: u16) -> bool
     number % 32 == 28 || number % 32 == 29
 }
 
-// What the check says of a packet.
-#[derive(Clone, Copy)]
-pub enum Verdict {
-    Passes,
-    Refused(Refusal),
-    // The record at an index, counted from 0, is critical and isn't recognised.
-    BadOption(usize),
-}
-
-// What the check of a packet answers: what it says of the packet, and which of its records are kept. Of a packet that passes,
-// the others are passed over; beside a refusal none is kept.
-#[derive(Clone, Copy)]
-pub struct Checked {
-    pub outcome: Verdict,
-    pub kept: [bool; MAX_OPTIONS],
-}
-
-// Checks the options of a packet over its stores.
-pub fn check(packet: Packet, datagram: &[u8], edits: &[u8]) -> Checked
-    ensures { Checks (lengths_of (stores datagram.now edits.now)) packet result }
+// Checks the options of a packet over its stores, and says of each place of the array whether the record there is kept. The other
+// records of a packet that passes are passed over. The first critical record that isn't recognised is a bad option.
+pub fn check(packet: Packet, stores: Stores) -> Result<[bool; MAX_OPTIONS], Fault>
+    ensures { Checks (lengths_of (held stores.entry)) packet result }
 {
-    let lengths = Lengths::of(datagram, edits);
+    let lengths = Lengths::of(stores);
     if lengths.too_long() {
-        return refused(Verdict::Refused(Refusal::TooLong));
+        return Err(Fault::Refused(Refusal::TooLong));
     }
-    match judging::judge(packet, lengths) {
-        Judged::BadRecord => refused(Verdict::Refused(Refusal::BadRecord)),
-        Judged::OptionsSize(_) => sort(packet),
-    }
-}
-
-// A refusal, beside which no record is kept.
-fn refused(outcome: Verdict) -> Checked
-    ensures { checked result ≡ nothing_kept (told outcome) }
-{
-    Checked {
-        outcome,
-        kept: [false; MAX_OPTIONS],
-    }
+    judging::judge(packet, lengths)?;
+    sort(packet)
 }
 
 // Keeps each record that is recognised, and refuses the first other one that is critical. Since the numbers never fall, a kept
 // record has a record's number exactly when the last one kept has; 0, which stands for none, is in no row.
-fn sort(packet: Packet) -> Checked
+fn sort(packet: Packet) -> Result<[bool; MAX_OPTIONS], Fault>
     requires { (packet.count ≤ max_options) × (falling 0 (records_of packet) ≡ Bool.false) }
     ensures { checked result ≡ sorted (fates [] (records_of packet)) }
 {
-    let count = packet.count;
-    let options = packet.options;
     let mut kept = [false; MAX_OPTIONS];
     let mut last: u16 = 0;
-    let mut i = 0;
-    while i < count {
-        let option = options[i];
-        if is_recognised(option, option.number == last) {
+    for (i, option) in packet.options[..packet.count].iter().enumerate() {
+        if is_recognised(*option, option.number == last) {
             kept[i] = true;
             last = option.number;
-            i = i + 1;
         } else if is_critical(option.number) {
-            return refused(Verdict::BadOption(i));
-        } else {
-            i = i + 1;
+            return Err(Fault::BadOption(i));
         }
     }
-    Checked {
-        outcome: Verdict::Passes,
-        kept,
-    }
+    Ok(kept)
 }

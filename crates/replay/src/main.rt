@@ -6,79 +6,39 @@
 
 mod messages;
 mod shown;
-mod tallies;
 
-use messages::{Work, pass};
-use output::Console;
-use placing::put_bytes;
-use refusal::Outcome;
-use reports::flushed;
+use messages::{Judge, Replay};
+use reports::{Failure, Page};
 use reread::Input;
-use stream::Form;
-use tallies::Tally;
 use tracing::form_of;
-use words::part;
+use walks::{Walk, pass};
 
 fn main(rt: HostRuntime) {
     let mut window = [0u8; 65536];
     let mut out = [0u8; 65536];
-    replay_over(&rt, &mut window, &mut out);
-}
-
-fn replay_over(rt: &HostRuntime, window: &mut [u8; 65536], out: &mut [u8; 65536]) {
-    let console = Console::of(rt);
-    if let Some(input) = reread::standard(rt, console) {
-        replay(console, &input, window, out);
-    }
+    let mut page = Page::new(rt.stdout(), &mut out);
+    reports::end(&rt, replay(&rt, &mut window, &mut page));
 }
 
 // Judges the trace, and replays it where it is one.
-fn replay(console: Console, input: &Input, window: &mut [u8], out: &mut [u8]) {
-    let front = reread::front(console, input, window);
-    if front.failed {
-        return;
+fn replay(rt: &HostRuntime, window: &mut [u8], page: &mut Page) -> Result<(), Failure> {
+    let input = Input::standard(rt)?;
+    let form = form_of(input.front(window)?);
+    let judged = pass(rt, &input, &mut Judge(form), window, page)?;
+    if judged.rejected.is_some() {
+        return report(judged, page);
     }
-    let form = form_of(part(window, 0, front.count));
-    let judged = pass(console, input, form, Work::Judge, window, out);
-    let walk = judged.walk;
-    let outcome = walk.outcome;
-    match outcome {
-        Outcome::Refused(_) => report(console, judged, 0, out),
-        Outcome::Done => show(console, input, form, walk.failed, window, out),
-    }
+    let mut work = Replay::new(form);
+    let replayed = pass(rt, &input, &mut work, window, page)?;
+    shown::put_tally(page, replayed.messages, work.tally());
+    report(replayed, page)
 }
 
-// Replays a trace that was judged.
-fn show(
-    console: Console,
-    input: &Input,
-    form: Form,
-    failed: bool,
-    window: &mut [u8],
-    out: &mut [u8],
-) {
-    if failed {
-        return;
+// The verdict, as the last line.
+fn report(walk: Walk, page: &mut Page) -> Result<(), Failure> {
+    match walk.rejected {
+        Some(rejection) => writeln!(page, "{rejection}"),
+        None => writeln!(page, "replayed"),
     }
-    let replayed = pass(console, input, form, Work::Replay, window, out);
-    let place = shown::put_tally(out, replayed);
-    report(console, replayed, place, out);
-}
-
-// The verdict, as the last line; nothing where reading or writing failed, of which standard error has a line.
-fn report(console: Console, tally: Tally, at: usize, out: &mut [u8]) {
-    let walk = tally.walk;
-    if walk.failed {
-        return;
-    }
-    let outcome = walk.outcome;
-    let place = put_verdict(outcome, walk.refused, at, out);
-    flushed(console, out, place);
-}
-
-fn put_verdict(outcome: Outcome, refused: u64, at: usize, out: &mut [u8]) -> usize {
-    match outcome {
-        Outcome::Refused(why) => reports::put_refused(out, at, why, b", message ", refused),
-        Outcome::Done => put_bytes(out, at, b"replayed\n"),
-    }
+    page.finish()
 }

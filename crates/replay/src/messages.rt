@@ -1,154 +1,115 @@
-// A pass over a trace of any length, message by message through one window: to judge it, or to put its messages to the rule. A message
-// with its time has at most 1,401 bytes, so the window always holds the next one whole, and nothing else bounds the trace.
-use crate::shown::put_message;
-use crate::tallies::Tally;
-use hearing::{Heard, TABLE_SIZE, hear};
-use output::Console;
-use refusal::Outcome;
-use reports::progress;
-use reread::{Input, View, viewed};
-use stream::{Form, Step};
+// What is done with a trace of any length: it is judged, or its messages are put to the rule. A message with its time has at most 1,401
+// bytes, so a window always holds the next one whole.
+use crate::shown;
+use hearing::{TABLE_SIZE, Verdict, hear};
+use refusal::Refusal;
+use reports::Page;
+use stream::Form;
 use tracing::{Arrived, arrival_at, strict_timed_at};
-use words::part;
+use walks::{Piece, Work};
 
 // How many bytes a message has at most with its time, which is in the old form.
 const MOST: usize = 1401;
 
-// More messages than any trace has.
-const MANY: u64 = 1000000000000000;
+// Whether the window may hold only a part of the next message.
+fn is_cut(rest: &[u8], ended: bool) -> bool {
+    !ended && rest.len() < MOST
+}
 
-// What is done with each message.
+// Judges each message of a trace of a form.
 #[derive(Clone, Copy)]
-pub enum Work {
-    Judge,
-    Replay,
-}
+pub struct Judge(pub Form);
 
-// Passes over the whole trace, from a table whose places are all unused. What is shown goes to the output, which is written as it
-// fills.
-pub fn pass(
-    console: Console,
-    input: &Input,
-    form: Form,
-    work: Work,
-    window: &mut [u8],
-    out: &mut [u8],
-) -> Tally {
-    if !reread::rewound(console, input) {
-        return Tally::start().failing();
-    }
-    let mut table = [0u8; TABLE_SIZE];
-    let tally = take_all(console, input, form, work, window, &mut table, out);
-    let walk = tally.walk;
-    tally.walked(walk.finished(console, out))
-}
-
-// Takes message after message, as far as a limit that no trace reaches.
-fn take_all(
-    console: Console,
-    input: &Input,
-    form: Form,
-    work: Work,
-    window: &mut [u8],
-    table: &mut [u8],
-    out: &mut [u8],
-) -> Tally {
-    let mut tally = Tally::start();
-    let mut left = MANY;
-    while 0 < left {
-        if !tally.more() {
-            return tally;
+impl Work for Judge {
+    // A message that is none ends the pass; one whose datagram is bad decides only where the rest is a trace.
+    fn take(&mut self, rest: &[u8], ended: bool, _page: &mut Page) -> Piece {
+        if is_cut(rest, ended) {
+            return Piece::Cut;
         }
-        tally = take_next(console, input, form, work, tally, window, table, out);
-        left = left - 1;
-    }
-    tally
-}
-
-// Takes the next message; the pass ends where there is none, or where reading failed.
-fn take_next(
-    console: Console,
-    input: &Input,
-    form: Form,
-    work: Work,
-    tally: Tally,
-    window: &mut [u8],
-    table: &mut [u8],
-    out: &mut [u8],
-) -> Tally {
-    let view = next_view(console, input, window, tally.view);
-    let tally = tally.viewing(view);
-    if view.failed {
-        return tally.failing();
-    }
-    if view.end <= view.start {
-        return tally.ending();
-    }
-    take_message(
-        console,
-        form,
-        work,
-        tally,
-        part(window, 0, view.end),
-        view.start,
-        table,
-        out,
-    )
-}
-
-// The next message whole in view, and a line on how far the pass is when the window was filled again.
-fn next_view(console: Console, input: &Input, window: &mut [u8], before: View) -> View {
-    let view = viewed(console, input, window, before, MOST);
-    if view.windows != before.windows {
-        progress(console, b"passed over ", view.windows);
-    }
-    view
-}
-
-fn take_message(
-    console: Console,
-    form: Form,
-    work: Work,
-    tally: Tally,
-    window: &[u8],
-    at: usize,
-    table: &mut [u8],
-    out: &mut [u8],
-) -> Tally {
-    match work {
-        Work::Judge => judge(form, tally, window, at),
-        Work::Replay => {
-            let heard = hear_message(tally, arrival_at(form, window, at), table, out);
-            let walk = heard.walk;
-            heard.walked(walk.spilling(console, out))
+        match arrival_at(self.0, rest, 0) {
+            Err(why) => Piece::Refused(why),
+            Ok(arrived) => {
+                let judged = strict_timed_at(self.0, rest, 0).map(|_| ());
+                Piece::Message(arrived.next, judged)
+            }
         }
     }
 }
 
-// A message that is none ends the pass; one whose datagram is bad decides only where the rest is a trace.
-fn judge(form: Form, tally: Tally, window: &[u8], at: usize) -> Tally {
-    let arrived = arrival_at(form, window, at);
-    let outcome = arrived.outcome;
-    match outcome {
-        Outcome::Refused(why) => tally.refusing(why),
-        Outcome::Done => match strict_timed_at(form, window, at) {
-            Step::Refused(why) => tally.passing(Outcome::Refused(why), arrived.next),
-            Step::Message { len: _, next } => tally.passing(Outcome::Done, next),
-        },
+// How many messages the rule said what of.
+#[derive(Clone, Copy)]
+pub struct Tally {
+    pub fresh: u64,
+    pub duplicates: u64,
+    pub passed: u64,
+}
+
+// Puts each message of a trace of a form to the rule, and shows it.
+#[derive(Drop)]
+pub struct Replay {
+    form: Form,
+    table: [u8; TABLE_SIZE],
+    // The time of the message before, 0 for the first.
+    before: u32,
+    tally: Tally,
+}
+
+impl Replay {
+    // From a table whose places are all unused.
+    pub fn new(form: Form) -> Replay {
+        Replay {
+            form,
+            table: [0; TABLE_SIZE],
+            before: 0,
+            tally: Tally {
+                fresh: 0,
+                duplicates: 0,
+                passed: 0,
+            },
+        }
+    }
+
+    pub fn tally(&self) -> Tally {
+        self.tally
+    }
+
+    // One more of a verdict.
+    fn count(&mut self, verdict: Verdict) {
+        let tally = &mut self.tally;
+        let count = match verdict {
+            Verdict::New => &mut tally.fresh,
+            Verdict::Duplicate => &mut tally.duplicates,
+            Verdict::Passed => &mut tally.passed,
+        };
+        *count = count.wrapping_add(1);
+    }
+
+    // Puts a message to the rule, and a line on it to the page. A refused one ends the pass.
+    fn hear(&mut self, rest: &[u8], page: &mut Page) -> Result<Arrived, Refusal> {
+        let arrived = arrival_at(self.form, rest, 0)?;
+        let Arrived {
+            time,
+            kind,
+            peer,
+            id,
+            next: _,
+        } = arrived;
+        let verdict = hear(&mut self.table, self.before, time, kind, peer, id)?;
+        self.before = time;
+        self.count(verdict);
+        shown::put_message(page, arrived, verdict);
+        Ok(arrived)
     }
 }
 
-// Puts a message to the rule, and a line on it to the output. A refused one ends the pass.
-fn hear_message(tally: Tally, arrived: Arrived, table: &mut [u8], out: &mut [u8]) -> Tally {
-    let kind = arrived.kind;
-    let peer = arrived.peer;
-    let time = arrived.time;
-    match hear(table, tally.before, time, kind, peer, arrived.id) {
-        Heard::Refused(why) => tally.refusing(why),
-        Heard::Is(verdict) => {
-            let walk = tally.walk;
-            let place = put_message(out, walk.place, time, peer, kind, arrived.id, verdict);
-            tally.hearing(verdict, time, arrived.next, place)
+impl Work for Replay {
+    fn take(&mut self, rest: &[u8], ended: bool, page: &mut Page) -> Piece {
+        if is_cut(rest, ended) {
+            return Piece::Cut;
+        }
+        match self.hear(rest, page) {
+            Ok(arrived) => Piece::Message(arrived.next, Ok(())),
+            Err(why) => Piece::Refused(why),
         }
     }
 }

@@ -4,28 +4,34 @@
 mod heard;
 mod replayed;
 
-use words::{Named, name_at};
+use output::Page;
+use words::Line;
 
-const NAMES: [u8; 12] = *b"hear;replay;";
+#[derive(Clone, Copy)]
+pub enum Request {
+    Hear,
+    Replay,
+}
 
-const HEAR: usize = 0;
-
-// Which of these requests a line is.
-pub fn named(line: &[u8]) -> Named {
-    name_at(line, 0, &NAMES)
+// Which of these requests a name is.
+pub fn named(name: &[u8]) -> Option<Request> {
+    match name {
+        b"hear" => Some(Request::Hear),
+        b"replay" => Some(Request::Replay),
+        _ => None,
+    }
 }
 
 // Answers a request. A table or a trace goes to the store, and the listing to as much of the room as is named.
 pub fn answer(
-    name: Named,
-    line: &[u8],
+    request: Request,
+    line: &mut Line,
     store: &mut [u8],
     room: &mut [u8],
-    out: &mut [u8],
-    place: usize,
-) -> usize {
-    if name.index == HEAR {
-        return heard::answer(line, name.next, store, out, place);
+    page: &mut Page,
+) -> Option<()> {
+    match request {
+        Request::Hear => heard::answer(line, store, page),
+        Request::Replay => replayed::answer(line, store, room, page),
     }
-    replayed::answer(line, name.next, store, room, out, place)
 }

@@ -4,7 +4,8 @@ use mathlib.Core.Path.{◌≡◌, refl, sym, ap, subst, ◌∙◌}
 use mathlib.Core.List.{List}
 use lib.ListN.{length, replicate}
 use Rattle.refusal.specs.Answer.{Answer, given, refused, onward, outcome, after}
-use Rattle.refusal.specs.declared.Outcome.{Outcome}
+use Rattle.std.specs.Prelude.{Result}
+use Rattle.refusal.specs.declared.Refusal.{Refusal}
 use Rattle.stream.specs.declared.Form.{Form}
 use Rattle.hearing.specs.Bytes.{table_size}
 use Rattle.hearing.specs.Hearing.{clearing, Clears}
@@ -18,7 +19,7 @@ use Rattle.replaying.specs.Replaying.{begins, cleared, replayed_from, replaying}
 use Rattle.replaying.specs.Turns.{Follows, messages_in, calls}
 
 -- What clearing leaves where it isn't refused.
-pub cleared_by : (table : List ℕ) (r : Outcome) (left : List ℕ) → Clears table r left → clearing (length table) ≡ given tt → left ≡ cleared table
+pub cleared_by : (table : List ℕ) (r : Result (Unit {0}) Refusal) (left : List ℕ) → Clears table r left → clearing (length table) ≡ given tt → left ≡ cleared table
 unfolding cleared
 cleared_by table r left c e = c.table ∙ ap (λ (a : Answer (Unit {0})). after a 0 (replicate table_size 0) table) e
 
@@ -44,7 +45,7 @@ module _ (s table : List ℕ) where
     unfolding replaying
     not_begun k e = rw e (record { outcome = refl; count = refl; table = refl; listing = refl })
 
-    module _ (l : List Timed) (are : traced_strictly s ≡ given l) (r : Outcome) (left : List ℕ) (c : Clears table r left) where
+    module _ (l : List Timed) (are : traced_strictly s ≡ given l) (r : Result (Unit {0}) Refusal) (left : List ℕ) (c : Clears table r left) where
       -- The table is too short.
       pub no_table : (k : ℕ) → outcome r ≡ refused k → Ran (replaying s (length listing) table) listing (refused k) 0 left listing
       no_table k e =

@@ -6,14 +6,17 @@ use native.Mathlib.Omega.{arith}
 use lib.ListN.{length, set}
 use Rattle.rfc.specs.Duplicates.{Verdict}
 use Rattle.refusal.specs.Answer.{given, refused, Beside, beside}
+use Rattle.refusal.proofs.Answers.{not_refused}
 use Rattle.stream.specs.declared.Form.{Form}
-use Rattle.hearing.specs.declared.Heard.{Heard}
+use Rattle.std.specs.Prelude.{Result, Ok, Err}
+use Rattle.refusal.specs.declared.Refusal.{Refusal}
+use Rattle.hearing.specs.declared.Verdict.{Verdict as Word}
 use Rattle.hearing.specs.Hearing.{heard_of}
 use Rattle.hearing.specs.Calls.{letter, Called, Calls, Ran}
 use Rattle.hearing.proofs.Going.{Going, begin, same_size, finish, next_length, stop, some_place, turn}
 use Rattle.tracing.specs.Trace.{Timed}
 use Rattle.tracing.specs.TimedMessages.{traced_from}
-use Rattle.tracing.specs.Arrivals.{arrival_of, arrivals_of, Coming, arrival_at, no_arrival, arrived_in}
+use Rattle.tracing.specs.Arrivals.{arrival_of, arrivals_of, Coming, arrival_at, no_arrival, coming_of, arrived_in}
 use Rattle.tracing.specs.declared.Arrived.{Arrived}
 use Rattle.tracing.proofs.Left.{First, left_none, left_first}
 use Rattle.replaying.specs.Turns.{Follows, calls}
@@ -37,35 +40,42 @@ module _ (form : Form) (s : List ℕ) where
     pub walk_ends : length s ≤ at → Ran c old (given tt) count table listing
     walk_ends h = finish c old table listing before count (arrivals_of w.rest) w.going (ap arrivals_of (left_none form s at w.rest w.follow h))
 
-    module _ (h : at < length s) (m : Arrived) (is : arrived_in m ≡ beside no_arrival (arrival_at form s at)) where
+    module _ (h : at < length s) where
       next_one : First form s at w.rest w.follow
       next_one = left_first form s at w.rest w.follow h
 
-      arrived : arrived_in m ≡ record { answer = given tt; value = record { arrival = arrival_of next_one.found.timed; next = next_one.found.next } }
-      arrived = is ∙ (rw next_one.is refl)
+      -- The message isn't refused.
+      pub walk_never {ℓ} : {C : Type ℓ} (e : Refusal) → arrived_in (Err e) ≡ beside no_arrival (arrival_at form s at) → C
+      walk_never e is =
+          let found : arrived_in (Err e) ≡ record { answer = given tt; value = record { arrival = arrival_of next_one.found.timed; next = next_one.found.next } } = is ∙ (rw next_one.is refl) in
+          not_refused (sym (ap (λ (x : Beside Coming). x.answer) found))
 
-      pub walk_onward : at < m.next
-      walk_onward = omega (arith, next_one.onward, ap (λ (x : Beside Coming). x.value.next) arrived)
+      module _ (m : Arrived) (is : arrived_in (Ok m) ≡ beside no_arrival (arrival_at form s at)) where
+        arrived : arrived_in (Ok m) ≡ record { answer = given tt; value = record { arrival = arrival_of next_one.found.timed; next = next_one.found.next } }
+        arrived = is ∙ (rw next_one.is refl)
 
-      rest_is : arrivals_of w.rest ≡ (arrived_in m).value.arrival ∷ arrivals_of next_one.others
-      rest_is = ap arrivals_of next_one.are ∙ ap (λ (x : Beside Coming). x.value.arrival ∷ arrivals_of next_one.others) (sym arrived)
+        pub walk_onward : at < m.next
+        walk_onward = omega (arith, next_one.onward, ap (λ (x : Beside Coming). x.value.next) arrived)
 
-      module _ (r : Heard) (next : List ℕ) (k : Called (length listing - count) before (arrived_in m).value.arrival table r next) where
-        pub walk_table : length next ≡ length table₀
-        walk_table = next_length c old table listing before count (arrivals_of w.rest) w.going (arrived_in m).value.arrival (arrivals_of next_one.others) rest_is r next k ∙ w.size
+        rest_is : arrivals_of w.rest ≡ (coming_of m).arrival ∷ arrivals_of next_one.others
+        rest_is = ap arrivals_of next_one.are ∙ ap (λ (x : Beside Coming). x.value.arrival ∷ arrivals_of next_one.others) (sym arrived)
 
-        pub walk_stops : (n : ℕ) → heard_of r ≡ refused n → Ran c old (refused n) count next listing
-        walk_stops n e = stop c old table listing before count (arrivals_of w.rest) w.going (arrived_in m).value.arrival (arrivals_of next_one.others) rest_is r next k n e
+        module _ (r : Result Word Refusal) (next : List ℕ) (k : Called (length listing - count) before (coming_of m).arrival table r next) where
+          pub walk_table : length next ≡ length table₀
+          walk_table = next_length c old table listing before count (arrivals_of w.rest) w.going (coming_of m).arrival (arrivals_of next_one.others) rest_is r next k ∙ w.size
 
-        module _ (v : Verdict) (e : heard_of r ≡ given v) where
-          pub walk_place : count < length listing
-          walk_place = some_place c old table listing before count (arrivals_of w.rest) w.going (arrived_in m).value.arrival (arrivals_of next_one.others) rest_is r next k v e
+          pub walk_stops : (n : ℕ) → heard_of r ≡ refused n → Ran c old (refused n) count next listing
+          walk_stops n e = stop c old table listing before count (arrivals_of w.rest) w.going (coming_of m).arrival (arrivals_of next_one.others) rest_is r next k n e
 
-          pub walk_turn : (byte : ℕ) → byte ≡ letter v → ReplayWalk c table₀ old next (set listing count byte) m.time m.next (count + 1)
-          walk_turn byte b =
-              record {
-                rest = next_one.others;
-                follow = ap (λ (x : Beside Coming). traced_from form s x.value.next) arrived ∙ next_one.left;
-                going = turn c old table listing before count (arrivals_of w.rest) w.going (arrived_in m).value.arrival (arrivals_of next_one.others) rest_is r next k v e byte b;
-                size = walk_table;
-              }
+          module _ (v : Verdict) (e : heard_of r ≡ given v) where
+            pub walk_place : count < length listing
+            walk_place = some_place c old table listing before count (arrivals_of w.rest) w.going (coming_of m).arrival (arrivals_of next_one.others) rest_is r next k v e
+
+            pub walk_turn : (byte : ℕ) → byte ≡ letter v → ReplayWalk c table₀ old next (set listing count byte) m.time m.next (count + 1)
+            walk_turn byte b =
+                record {
+                  rest = next_one.others;
+                  follow = ap (λ (x : Beside Coming). traced_from form s x.value.next) arrived ∙ next_one.left;
+                  going = turn c old table listing before count (arrivals_of w.rest) w.going (coming_of m).arrival (arrivals_of next_one.others) rest_is r next k v e byte b;
+                  size = walk_table;
+                }

@@ -4,19 +4,19 @@
 ghost use Rattle.std.specs.Prelude.{length};
 ghost use Rattle.refusal.specs.Answer.{outcome};
 ghost use Rattle.hearing.specs.Calls.{Called, Ran};
-ghost use Rattle.tracing.specs.Arrivals.{arrived_in};
+ghost use Rattle.tracing.specs.Arrivals.{coming_of};
 ghost use Rattle.replaying.specs.Replaying.{Replays};
 ghost use Rattle.replaying.specs.Turns.{Follows, calls};
 
-use hearing::{Heard, clear, hear};
-use refusal::{Outcome, Refusal};
+use hearing::{Verdict, clear, hear};
+use refusal::Refusal;
 use stream::Form;
-use tracing::{Arrived, Judged, arrival_at, form_of, judge};
+use tracing::{Arrived, arrival_at, form_of, judge};
 
 // How a replay ended, and how many messages are listed.
 #[derive(Clone, Copy)]
 pub struct Replayed {
-    pub outcome: Outcome,
+    pub outcome: Result<(), Refusal>,
     pub count: usize,
 }
 
@@ -25,19 +25,19 @@ pub struct Replayed {
 pub fn replay(trace: &[u8], table: &mut [u8], listing: &mut [u8]) -> Replayed
     ensures { Replays trace.now table.old listing.old result table.new listing.new }
 {
-    match judge(trace) {
-        Judged::Refused(e) => Replayed {
-            outcome: Outcome::Refused(e),
+    if let Err(e) = judge(trace) {
+        return Replayed {
+            outcome: Err(e),
             count: 0,
-        },
-        Judged::Messages(_) => match clear(table) {
-            Outcome::Refused(e) => Replayed {
-                outcome: Outcome::Refused(e),
-                count: 0,
-            },
-            Outcome::Done => hear_all(form_of(trace), trace, table, listing),
-        },
+        };
     }
+    if let Err(e) = clear(table) {
+        return Replayed {
+            outcome: Err(e),
+            count: 0,
+        };
+    }
+    hear_all(form_of(trace), trace, table, listing)
 }
 
 // The messages of a trace that was judged, in turn.
@@ -49,39 +49,47 @@ fn hear_all(form: Form, trace: &[u8], table: &mut [u8], listing: &mut [u8]) -> R
     let mut at = 0;
     let mut count = 0;
     while at < trace.len() {
-        let m = arrival_at(form, trace, at);
-        match hear_listed(m, before, listing.len() - count, table) {
-            Heard::Refused(e) => {
+        let m = match arrival_at(form, trace, at) {
+            Ok(m) => m,
+            Err(e) => {
                 return Replayed {
-                    outcome: Outcome::Refused(e),
+                    outcome: Err(e),
                     count,
                 };
             }
-            Heard::Is(v) => {
+        };
+        match hear_listed(m, before, listing.len() - count, table) {
+            Err(e) => {
+                return Replayed {
+                    outcome: Err(e),
+                    count,
+                };
+            }
+            Ok(v) => {
                 listing[count] = v.letter();
                 before = m.time;
                 at = m.next;
-                count = count + 1;
+                count += 1;
             }
         }
     }
     Replayed {
-        outcome: Outcome::Done,
+        outcome: Ok(()),
         count,
     }
 }
 
 // One message, where the listing has places for so many more. Its time is judged before the listing, and the listing before the
 // table.
-fn hear_listed(m: Arrived, before: u32, room: usize, table: &mut [u8]) -> Heard
-    ensures { Called room before (arrived_in m).value.arrival table.old result table.new }
+fn hear_listed(m: Arrived, before: u32, room: usize, table: &mut [u8]) -> Result<Verdict, Refusal>
+    ensures { Called room before (coming_of m).arrival table.old result table.new }
 {
     let time = m.time;
     if room == 0 {
         if time < before {
-            return Heard::Refused(Refusal::ClockBack);
+            return Err(Refusal::ClockBack);
         }
-        return Heard::Refused(Refusal::NoRoom);
+        return Err(Refusal::NoRoom);
     }
     let kind = m.kind;
     let peer = m.peer;

@@ -1,87 +1,133 @@
-// What the programs say besides their output: refusals by number and name, the verdict, and how far they are.
+// What the programs write: the page that their output waits on, refusals by number and name, what failed, and how far they are.
 #![tactic(auto)]
 
-use decimal::put_decimal;
-use output::Console;
-use placing::{put_byte, put_bytes};
+use placing::put_bytes;
 use refusal::Refusal;
-use std::io::IsTerminal;
-use words::{part, place_in};
+use std::fmt::{Display, Formatter};
+use std::io::{IsTerminal, Stdout, Write};
+use std::{fmt, io};
 
-// The names of the refusals in the order of their numbers from 1, with a semicolon after each; 18 has none.
-const NAMES: [u8; 259] =
-    *b"InvalidHeader;InvalidTokenLength;InvalidOptionDelta;InvalidOptionLength;InvalidPacketLength;TooManyOptions;WrongVersion;EmptyCarries;MarkerAlone;TooLong;BadRecord;NoRoom;BadUint;BadBlockSize;BadText;BadOption;BlockNumber;;BadFreeze;BadFrame;ClockBack;BadPlan;";
-
-// Puts a line on a refusal: its number, its name, and what was refused by its number from 1: refused 19 BadFreeze, message 2
-pub fn put_refused(out: &mut [u8], at: usize, why: Refusal, what: &[u8], which: u64) -> usize {
-    let next = put_named(out, at, why);
-    let next = put_number(out, next, what, which);
-    put_byte(out, next, b'\n')
+// What failed of reading or writing, and why.
+#[derive(Drop)]
+pub struct Failure {
+    what: &'static str,
+    why: io::Error,
 }
 
-// Puts a refusal by number and name: refused 19 BadFreeze
-pub fn put_named(out: &mut [u8], at: usize, why: Refusal) -> usize {
-    let number = why.number();
-    let next = put_number(out, at, b"refused ", number as u64);
-    let next = put_byte(out, next, b' ');
-    put_name(out, next, number)
-}
-
-fn put_name(out: &mut [u8], at: usize, number: u8) -> usize {
-    if number == 0 {
-        return at;
+impl Failure {
+    pub fn new(what: &'static str, why: io::Error) -> Failure {
+        Failure { what, why }
     }
-    let name = place_in(&NAMES, (number - 1) as usize);
-    put_bytes(out, at, part(&NAMES, name.start, name.end))
 }
 
-// Puts a number, with a text before it.
-pub fn put_number(out: &mut [u8], at: usize, text: &[u8], number: u64) -> usize {
-    let next = put_bytes(out, at, text);
-    put_decimal(out, next, number)
+// writing the output: No space left on device (os error 28)
+impl Display for Failure {
+    fn fmt<W: fmt::Write>(&self, f: &mut Formatter<W>) -> fmt::Result {
+        let what = self.what;
+        let why = &self.why;
+        write!(f, "{what}: {why}")
+    }
 }
 
-// Writes a line to standard error.
-pub fn say(console: Console, line: &[u8]) {
-    console.say(line);
+// How a program ends: where reading or writing failed, standard error says what and why.
+pub fn end(rt: &HostRuntime, ended: Result<(), Failure>) {
+    if let Err(failure) = ended {
+        let _ = eprintln!(rt; "{failure}");
+    }
 }
 
-// The place that follows in an output, and whether writing it failed.
+// Writes bytes to standard output.
+pub fn write(mut output: Stdout, bytes: &[u8]) -> Result<(), Failure> {
+    output
+        .write_all(bytes)
+        .map_err(|why| Failure::new("writing the output", why))
+}
+
+// A refusal by number and name.
 #[derive(Clone, Copy)]
-pub struct Spilled {
-    pub place: usize,
-    pub failed: bool,
-}
+pub struct Numbered(pub Refusal);
 
-// Writes the output up to a place if half of it is full.
-pub fn spill(console: Console, out: &[u8], place: usize) -> Spilled {
-    if place < out.len() / 2 {
-        return Spilled {
-            place,
-            failed: false,
-        };
-    }
-    Spilled {
-        place: 0,
-        failed: !flushed(console, out, place),
+// refused 19 BadFreeze
+impl Display for Numbered {
+    fn fmt<W: fmt::Write>(&self, f: &mut Formatter<W>) -> fmt::Result {
+        let why = self.0;
+        let number = why.number();
+        write!(f, "refused {number} {why}")
     }
 }
 
-// Writes the output up to a place. Where that fails, standard error says why.
-pub fn flushed(console: Console, out: &[u8], place: usize) -> bool {
-    console.write(part(out, 0, place))
+// Lent bytes that the output waits on until it is written. The programs have no heap; and of a page that is let go nothing is written,
+// as std's writers would write it, so that an output that ends early has no verdict.
+#[derive(Drop)]
+pub struct Page<'a> {
+    output: Stdout,
+    bytes: &'a mut [u8],
+    // How many of the bytes wait, and how many were written before them.
+    place: usize,
+    written: u64,
+}
+
+impl<'a> Page<'a> {
+    pub fn new(output: Stdout, bytes: &'a mut [u8]) -> Page<'a> {
+        Page {
+            output,
+            bytes,
+            place: 0,
+            written: 0,
+        }
+    }
+
+    // Puts what a function puts into an output at a place, of which it answers the end.
+    pub fn put<F: FnOnce(&mut [u8], usize) -> usize>(&mut self, put: F)
+        requires { F.IsAlwaysCallable put }
+    {
+        self.place = put(self.bytes, self.place);
+    }
+
+    // Puts bytes. What the page has no room for is cut off.
+    pub fn put_bytes(&mut self, bytes: &[u8]) {
+        self.place = put_bytes(self.bytes, self.place, bytes);
+    }
+
+    // Puts a text, for `write!` and `writeln!`, as `put_bytes` does.
+    pub fn write_fmt<D: Display + Drop>(&mut self, text: D) {
+        let _ = fmt::Write::write(self, text);
+    }
+
+    // Writes what waits once it is half of the page.
+    pub fn spill(&mut self) -> Result<(), Failure> {
+        if self.place < self.bytes.len() / 2 {
+            return Ok(());
+        }
+        self.finish()
+    }
+
+    // Writes what waits.
+    pub fn finish(&mut self) -> Result<(), Failure> {
+        let count = self.place.min(self.bytes.len());
+        self.place = 0;
+        self.written = self.written.wrapping_add(count as u64);
+        write(self.output, &self.bytes[..count])
+    }
+
+    // How many bytes were written.
+    pub fn written(&self) -> u64 {
+        self.written
+    }
+}
+
+impl fmt::Write for Page<'_> {
+    fn write_str(&mut self, s: &str) -> fmt::Result {
+        self.put_bytes(s.as_bytes());
+        Ok(())
+    }
 }
 
 // Says how far a long piece of work is, every 256 windows of 64 KiB, if somebody watches: standard error is a terminal.
-pub fn progress(console: Console, what: &[u8], windows: u64) {
-    if windows == 0 || windows % 256 != 0 {
+pub fn progress(rt: &HostRuntime, what: &str, windows: u64) {
+    if windows == 0 || windows % 256 != 0 || !rt.stderr().is_terminal() {
         return;
     }
-    if !console.errors.is_terminal() {
-        return;
-    }
-    let mut line = [0u8; 100];
-    let next = put_number(&mut line, 0, what, windows / 16);
-    let next = put_bytes(&mut line, next, b" MiB\n");
-    say(console, part(&line, 0, next));
+    let mebibytes = windows / 16;
+    let _ = eprintln!(rt; "{what} {mebibytes} MiB");
 }

@@ -7,7 +7,6 @@ use Rattle.option_reading.specs.Option.{Value}
 use Rattle.reading.specs.Options.{Tail, options}
 use Rattle.reading.specs.Reading.{longest}
 use Rattle.scanning.specs.Scanning.{Span, last_end, judged}
-use Rattle.scanning.specs.declared.Extension.{Extension}
 
 -- How many bytes of extension a nibble has that is not 15.
 unfoldable pub extra : ℕ → ℕ
@@ -19,9 +18,6 @@ plainly s at nibble =
     pick (ltb nibble 13) (record { value = nibble; next = at })
     (pick (eqb nibble 13) (record { value = 13 + get_or s at 0; next = at + 1 })
     (record { value = 269 + (get_or s at 0 * 256 + get_or s (at + 1) 0); next = at + 2 }))
-
-abbrev pub value_of : Extension → Value
-value_of e = record { value = e.value; next = e.next }
 
 -- The first numbers of a flat form, from the bytes of a datagram: version, type, code byte, id, token, payload, count.
 abbrev pub head_in : List ℕ → ℕ → ℕ → List ℕ

@@ -1,7 +1,8 @@
 -- Reading a datagram with no packet made: what judging it says, and its flat form.
-use Rattle.std.specs.Prelude.{ℕ, ◌+◌, Bool, List, [], ◌∷◌}
+use Rattle.std.specs.Prelude.{ℕ, ◌+◌, Bool, List, [], ◌∷◌, Result, Ok, Err}
 use Rattle.refusal.specs.Answer.{Answer, given, refused, onward, beside}
 use Rattle.refusal.specs.Number.{number_of}
+use Rattle.refusal.specs.declared.Refusal.{Refusal}
 use Rattle.packet.specs.Packet.{new_packet, records_of}
 use Rattle.packet.specs.declared.Packet.{Packet}
 use Rattle.packet.specs.declared.OptionRecord.{OptionRecord}
@@ -9,7 +10,6 @@ use Rattle.option_reading.specs.Option.{end}
 use Rattle.reading.specs.Reading.{reading}
 use Rattle.flat.specs.Flat.{flat, putting}
 use Rattle.scanning.specs.declared.Extent.{Extent}
-use Rattle.scanning.specs.declared.Extent.TheVariants.{Message, Refused}
 
 -- How many options a message has, where they end, and where its payload starts.
 pub record Span : Type 0 where
@@ -36,9 +36,9 @@ abbrev pub judged : Bool → List ℕ → Answer Span
 judged strict s = onward (reading strict s) (λ p. given (span_of p))
 
 -- An extent as an answer.
-abbrev pub extent_of : Extent → Answer Span
-extent_of (Message count end payload) = given (record { count = count; end = end; payload = payload })
-extent_of (Refused e) = refused (number_of e)
+abbrev pub extent_of : Result Extent Refusal → Answer Span
+extent_of (Ok x) = given (record { count = x.count; end = x.end; payload = x.payload })
+extent_of (Err e) = refused (number_of e)
 
 -- The answer of putting the flat form of the packet that is read into an output with this much room.
 abbrev pub scanned : Bool → ℕ → List ℕ → Answer (Unit {0})

@@ -5,43 +5,35 @@
 ghost use Rattle.std.specs.Prelude.{◌≡◌, Bool, ◌+◌, ◌*◌, ◌≤◌, ◌<◌, length, set};
 ghost use Rattle.std.proofs.lemmas.List.Edits.{sets};
 ghost use Rattle.refusal.specs.Answer.{outcome, after};
-ghost use Rattle.option_reading.specs.Answers.{ByteAt};
+ghost use Rattle.option_reading.specs.Answers.{value_of};
 ghost use Rattle.flat.specs.Flat.{flat_records};
 ghost use Rattle.scanning.specs.Scanning.{extent_of, judged, scanned, flat_read};
-ghost use Rattle.scanning.specs.Plain.{value_of, extra, plainly, head_in, start, options_from, spans, Places, stands, Open};
+ghost use Rattle.scanning.specs.Plain.{extra, plainly, head_in, start, options_from, spans, Places, stands, Open};
 
-use header::RawRead;
-use option_reading::{Found, place_at};
+use option_reading::{Extension, Found, byte_at, place_at};
 use packet::limits::MAX_OPTIONS;
 use reading::{longest_value, marker_alone, opening};
-use refusal::{Outcome, Refusal};
+use refusal::Refusal;
 
 // What a datagram holds: how many options, where they end, and where the payload starts.
 #[derive(Clone, Copy)]
-pub enum Extent {
-    Message {
-        count: usize,
-        end: usize,
-        payload: usize,
-    },
-    Refused(Refusal),
+pub struct Extent {
+    pub count: usize,
+    pub end: usize,
+    pub payload: usize,
 }
 
 // Judges a datagram as reading does, with no packet made.
-pub fn judge(strict: bool, datagram: &[u8]) -> Extent
+pub fn judge(strict: bool, datagram: &[u8]) -> Result<Extent, Refusal>
     ensures { extent_of result ≡ judged strict datagram.now }
 {
-    match opening(strict, datagram) {
-        RawRead::Refused(e) => Extent::Refused(e),
-        RawRead::Raw(raw) => {
-            let start = 4 + raw.token_length() as usize;
-            if option_at(datagram, start) {
-                let mut unnoted = [0u32; 0];
-                return walked(strict, datagram, start, &mut unnoted);
-            }
-            bare(strict, datagram, start)
-        }
+    let raw = opening(strict, datagram)?;
+    let start = 4 + raw.token_length() as usize;
+    if option_at(datagram, start) {
+        let mut unnoted = [0u32; 0];
+        return walked(strict, datagram, start, &mut unnoted);
     }
+    bare(strict, datagram, start)
 }
 
 // Whether an option stands at a position, and neither the datagram's end nor the payload marker.
@@ -55,30 +47,30 @@ fn option_at(buf: &[u8], idx: usize) -> bool
 }
 
 // A message with no options, whose walk ends where it starts.
-fn bare(strict: bool, buf: &[u8], start: usize) -> Extent
+fn bare(strict: bool, buf: &[u8], start: usize) -> Result<Extent, Refusal>
     requires { (start ≤ length buf.now) × (length buf.now ≤ 70000) × (stands buf.now start ≡ Bool.false) }
     ensures { extent_of result ≡ spans strict buf.now start }
 {
     if buf.len() <= start {
-        return Extent::Message {
+        return Ok(Extent {
             count: 0,
             end: start,
             payload: start,
-        };
+        });
     }
     if marker_alone(strict, true, start + 1, buf.len()) {
-        return Extent::Refused(Refusal::MarkerAlone);
+        return Err(Refusal::MarkerAlone);
     }
-    Extent::Message {
+    Ok(Extent {
         count: 0,
         end: start,
         payload: start + 1,
-    }
+    })
 }
 
 // The walk over the options, which notes the places of the first of them, as many as there is room for: who only judges lends none.
 // `place_at` is put into it by the compiler only while nothing else of a linked unit calls it.
-fn walked(strict: bool, buf: &[u8], start: usize, places: &mut [u32]) -> Extent
+fn walked(strict: bool, buf: &[u8], start: usize, places: &mut [u32]) -> Result<Extent, Refusal>
     requires { (start ≤ length buf.now) × (length buf.now ≤ 70000) }
     ensures result_value { extent_of result ≡ spans strict buf.now start }
     ensures places { Places start (options_from strict buf.now start) places.new }
@@ -88,23 +80,20 @@ fn walked(strict: bool, buf: &[u8], start: usize, places: &mut [u32]) -> Extent
     let mut number: u16 = 0;
     let mut idx = start;
     loop {
-        match place_at(most, buf, number, idx) {
-            Found::Refused(e) => {
-                return Extent::Refused(e);
-            }
+        match place_at(most, buf, number, idx)? {
             Found::End { marked, payload } => {
                 if marker_alone(strict, marked, payload, buf.len()) {
-                    return Extent::Refused(Refusal::MarkerAlone);
+                    return Err(Refusal::MarkerAlone);
                 }
-                return Extent::Message {
+                return Ok(Extent {
                     count,
                     end: idx,
                     payload,
-                };
+                });
             }
             Found::Option(r) => {
                 if MAX_OPTIONS <= count {
-                    return Extent::Refused(Refusal::TooManyOptions);
+                    return Err(Refusal::TooManyOptions);
                 }
                 note(places, count, idx as u32);
                 count = count + 1;
@@ -126,66 +115,47 @@ fn note(places: &mut [u32], count: usize, idx: u32)
 
 // Puts the flat form of a datagram's packet at the start of the output. On a refusal the output is as it was; where it has too
 // little room that is NoRoom (12).
-pub fn scan(strict: bool, datagram: &[u8], out: &mut [u32]) -> Outcome
+pub fn scan(strict: bool, datagram: &[u8], out: &mut [u32]) -> Result<(), Refusal>
     ensures result_value { outcome result ≡ scanned strict (length out.old) datagram.now }
     ensures out_after { out.new ≡ after (scanned strict (length out.old) datagram.now) 0 (flat_read strict datagram.now) out.old }
 {
-    match opening(strict, datagram) {
-        RawRead::Refused(e) => Outcome::Refused(e),
-        RawRead::Raw(raw) => {
-            let start = 4 + raw.token_length() as usize;
-            if option_at(datagram, start) {
-                return scan_options(strict, datagram, start, out);
-            }
-            scan_bare(strict, datagram, start, out)
-        }
+    let raw = opening(strict, datagram)?;
+    let start = 4 + raw.token_length() as usize;
+    if option_at(datagram, start) {
+        return scan_options(strict, datagram, start, out);
     }
+    scan_bare(strict, datagram, start, out)
 }
 
 // The same of a datagram whose options start at a position.
-fn scan_options(strict: bool, datagram: &[u8], start: usize, out: &mut [u32]) -> Outcome
+fn scan_options(strict: bool, datagram: &[u8], start: usize, out: &mut [u32]) -> Result<(), Refusal>
     requires { Open strict datagram.now start }
     ensures result_value { outcome result ≡ scanned strict (length out.old) datagram.now }
     ensures out_after { out.new ≡ after (scanned strict (length out.old) datagram.now) 0 (flat_read strict datagram.now) out.old }
 {
     let mut places = [0u32; MAX_OPTIONS];
-    match walked(strict, datagram, start, &mut places) {
-        Extent::Refused(e) => Outcome::Refused(e),
-        Extent::Message {
-            count,
-            end: _,
-            payload,
-        } => {
-            if out.len() < 11 + 4 * count {
-                return Outcome::Refused(Refusal::NoRoom);
-            }
-            put_head(out, datagram, payload, count);
-            put_options(out, strict, datagram, &places, count);
-            Outcome::Done
-        }
+    let extent = walked(strict, datagram, start, &mut places)?;
+    let count = extent.count;
+    if out.len() < 11 + 4 * count {
+        return Err(Refusal::NoRoom);
     }
+    put_head(out, datagram, extent.payload, count);
+    put_options(out, strict, datagram, &places, count);
+    Ok(())
 }
 
 // The same where there are none: no places are noted, whose array takes longer to clear than all the rest.
-fn scan_bare(strict: bool, datagram: &[u8], start: usize, out: &mut [u32]) -> Outcome
+fn scan_bare(strict: bool, datagram: &[u8], start: usize, out: &mut [u32]) -> Result<(), Refusal>
     requires { Open strict datagram.now start × (stands datagram.now start ≡ Bool.false) }
     ensures result_value { outcome result ≡ scanned strict (length out.old) datagram.now }
     ensures out_after { out.new ≡ after (scanned strict (length out.old) datagram.now) 0 (flat_read strict datagram.now) out.old }
 {
-    match bare(strict, datagram, start) {
-        Extent::Refused(e) => Outcome::Refused(e),
-        Extent::Message {
-            count,
-            end: _,
-            payload,
-        } => {
-            if out.len() < 11 {
-                return Outcome::Refused(Refusal::NoRoom);
-            }
-            put_head(out, datagram, payload, count);
-            Outcome::Done
-        }
+    let extent = bare(strict, datagram, start)?;
+    if out.len() < 11 {
+        return Err(Refusal::NoRoom);
     }
+    put_head(out, datagram, extent.payload, extent.count);
+    Ok(())
 }
 
 // The numbers before the options: the code is the byte as it stands, so no table of classes is asked.
@@ -221,8 +191,7 @@ fn put_options<'a>(
     ensures { out.new ≡ sets out.old 11 (flat_records (options_from strict buf.now (start buf.now))) }
 {
     let mut number = 0;
-    let mut i = 0;
-    while i < count {
+    for i in 0..count {
         let idx = places[i] as usize;
         let byte = byte_at(buf, idx);
         let delta = unjudged(buf, idx + 1, byte / 16);
@@ -233,15 +202,7 @@ fn put_options<'a>(
         out[at + 1] = 0;
         out[at + 2] = length.next as u32;
         out[at + 3] = length.value as u32;
-        i = i + 1;
     }
-}
-
-// A delta or a length, and the position after its extension.
-#[derive(Clone, Copy)]
-struct Extension {
-    value: usize,
-    next: usize,
 }
 
 // The number of a nibble with its extension at a position, of an option that is known to be good.
@@ -265,11 +226,4 @@ fn unjudged(buf: &[u8], idx: usize, nibble: usize) -> Extension
         value: 269 + (byte_at(buf, idx) * 256 + byte_at(buf, idx + 1)),
         next: idx + 2,
     }
-}
-
-fn byte_at(buf: &[u8], idx: usize) -> usize
-    requires { idx < length buf.now }
-    ensures { ByteAt buf.now idx result }
-{
-    buf[idx] as usize
 }

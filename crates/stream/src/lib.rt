@@ -20,78 +20,70 @@ pub enum Form {
 
 // What a stream holds: how many messages, and how many bytes their datagrams have together.
 #[derive(Clone, Copy)]
-pub enum Judged {
-    Messages { count: usize, bytes: usize },
-    Refused(Refusal),
+pub struct Tally {
+    pub count: usize,
+    pub bytes: usize,
 }
 
 // Judges a whole stream: its messages are counted, or it is no stream of the form.
-pub fn judge(form: Form, stream: &[u8]) -> Judged
+pub fn judge(form: Form, stream: &[u8]) -> Result<Tally, Refusal>
     ensures { judged result ≡ tally (thawed form stream.now) }
 {
     judge_from(form, stream, 0)
 }
 
 // The same, of what stands from a position on.
-pub fn judge_from(form: Form, stream: &[u8], from: usize) -> Judged
+pub fn judge_from(form: Form, stream: &[u8], from: usize) -> Result<Tally, Refusal>
     ensures { judged result ≡ tally (messages_from form stream.now from) }
 {
     let mut count = 0;
     let mut bytes = 0;
     let mut at = from;
     while at < stream.len() {
-        match message_at(form, stream, at) {
-            Step::Refused(e) => {
-                return Judged::Refused(e);
-            }
-            Step::Message { len, next } => {
-                count = count + 1;
-                bytes = bytes + len;
-                at = next;
-            }
-        }
+        let message = message_at(form, stream, at)?;
+        count += 1;
+        bytes += message.len;
+        at = message.next;
     }
-    Judged::Messages { count, bytes }
+    Ok(Tally { count, bytes })
 }
 
 // A message: how many bytes its datagram has, and the position after it. Its peer stands one byte after its own position.
 #[derive(Clone, Copy)]
-pub enum Step {
-    Message { len: usize, next: usize },
-    Refused(Refusal),
+pub struct Step {
+    pub len: usize,
+    pub next: usize,
 }
 
 // The message at a position.
-pub fn message_at(form: Form, stream: &[u8], at: usize) -> Step
+pub fn message_at(form: Form, stream: &[u8], at: usize) -> Result<Step, Refusal>
     ensures { step_read result ≡ extent (message_at form stream.now at) }
 {
     if byte_at(stream, at) != 1 {
-        return Step::Refused(Refusal::BadFreeze);
+        return Err(Refusal::BadFreeze);
     }
     if stream.len() - at < 19 {
-        return Step::Refused(Refusal::BadFreeze);
+        return Err(Refusal::BadFreeze);
     }
-    match body_at(form, stream, at + 19) {
-        Step::Refused(e) => Step::Refused(e),
-        Step::Message { len, next } => sized(len, next),
-    }
+    let body = body_at(form, stream, at + 19)?;
+    sized(body.len, body.next)
 }
 
 // A datagram of 4..1,280 bytes.
-fn sized(len: usize, next: usize) -> Step
+fn sized(len: usize, next: usize) -> Result<Step, Refusal>
     ensures { step_read result ≡ sized_extent (record { len = len; next = next }) }
 {
     if len < 4 {
-        return Step::Refused(Refusal::BadFreeze);
+        return Err(Refusal::BadFreeze);
     }
     if FULL_SIZE < len {
-        return Step::Refused(Refusal::BadFreeze);
+        return Err(Refusal::BadFreeze);
     }
-    Step::Message { len, next }
+    Ok(Step { len, next })
 }
 
 // The chunks at a position, up to the end of the message.
-fn body_at(form: Form, stream: &[u8], from: usize) -> Step
+fn body_at(form: Form, stream: &[u8], from: usize) -> Result<Step, Refusal>
     requires { from ≤ length stream.now }
     ensures { step_read result ≡ body_extent (body_at form stream.now (length stream.now) (full form) from) }
 {
@@ -101,52 +93,41 @@ fn body_at(form: Form, stream: &[u8], from: usize) -> Step
     let mut at = from;
     loop {
         if byte_at(stream, at) == 3 {
-            return Step::Message { len, next: at + 1 };
+            return Ok(Step { len, next: at + 1 });
         }
         if before < whole {
-            return Step::Refused(Refusal::BadFreeze);
+            return Err(Refusal::BadFreeze);
         }
-        match chunk_at(form, stream, at) {
-            Chunk::Bad => {
-                return Step::Refused(Refusal::BadFreeze);
-            }
-            Chunk::Of(n) => {
-                before = n;
-                len = len + n;
-                at = at + head_of(form) + n + padding_of(form, n);
-            }
-        }
+        let Some(n) = chunk_at(form, stream, at) else {
+            return Err(Refusal::BadFreeze);
+        };
+        before = n;
+        len += n;
+        at = at + head_of(form) + n + padding_of(form, n);
     }
 }
 
-// A chunk: how many bytes it carries.
-#[derive(Clone, Copy)]
-enum Chunk {
-    Of(usize),
-    Bad,
-}
-
-// The chunk at a position.
-fn chunk_at(form: Form, stream: &[u8], at: usize) -> Chunk
+// The chunk at a position: how many bytes it carries; none where no chunk of the form stands.
+fn chunk_at(form: Form, stream: &[u8], at: usize) -> Option<usize>
     requires { at ≤ length stream.now }
     ensures { chunk_read result ≡ chunk_at form stream.now at }
 {
     let n = count_at(form, stream, at);
     if n < 1 {
-        return Chunk::Bad;
+        return None;
     }
     if full_of(form) < n {
-        return Chunk::Bad;
+        return None;
     }
     let head = head_of(form);
     let unused = padding_of(form, n);
     if stream.len() - at < head + n + unused {
-        return Chunk::Bad;
+        return None;
     }
     if all_zero(stream, at + head + n, unused) {
-        return Chunk::Of(n);
+        return Some(n);
     }
-    Chunk::Bad
+    None
 }
 
 // Whether each of the bytes from a position is zero.
@@ -154,12 +135,10 @@ fn all_zero(stream: &[u8], from: usize, n: usize) -> bool
     requires { from + n ≤ length stream.now }
     ensures { result ≡ zeros (part stream.now from n) }
 {
-    let mut i = 0;
-    while i < n {
+    for i in 0..n {
         if stream[from + i] != 0 {
             return false;
         }
-        i = i + 1;
     }
     true
 }
@@ -224,23 +203,13 @@ pub fn padding_of(form: Form, n: usize) -> usize
     ensures { result ≡ padding form n }
 {
     match form {
-        Form::Old => unused_of(n),
+        Form::Old => 30usize.saturating_sub(n),
         Form::New => 0,
     }
 }
 
-// What so many bytes leave of a record of the old form.
-fn unused_of(n: usize) -> usize
-    ensures { result ≡ padding Form.Old n }
-{
-    if 30 < n {
-        return 0;
-    }
-    30 - n
-}
-
 // A byte of the stream; 0, which is no kind, past its end.
-fn byte_at(stream: &[u8], at: usize) -> usize
+pub fn byte_at(stream: &[u8], at: usize) -> usize
     ensures { ByteAt stream.now at result }
 {
     if at < stream.len() {
@@ -253,11 +222,7 @@ fn byte_at(stream: &[u8], at: usize) -> usize
 pub fn chunk_length(form: Form, left: usize) -> usize
     ensures { result ≡ min (full form) left }
 {
-    let whole = full_of(form);
-    if whole <= left {
-        return whole;
-    }
-    left
+    full_of(form).min(left)
 }
 
 // How many chunks so many bytes take.
@@ -265,17 +230,7 @@ pub fn chunk_count(form: Form, n: usize) -> usize
     ensures { result ≡ chunk_count form n }
 {
     match form {
-        Form::Old => n / 30 + rounded_up(n % 30),
-        Form::New => n / 64 + rounded_up(n % 64),
+        Form::Old => n.div_ceil(30),
+        Form::New => n.div_ceil(64),
     }
-}
-
-// One chunk more for what full chunks leave over.
-fn rounded_up(left: usize) -> usize
-    ensures { result ≡ min 1 left }
-{
-    if 0 < left {
-        return 1;
-    }
-    0
 }

@@ -5,12 +5,12 @@ use mathlib.Core.Logic.{◌⊎◌, inl, inr, ⊎_elim}
 use mathlib.Core.List.{List, [], ◌∷◌, ◌++◌}
 use native.Mathlib.Omega.{arith}
 use lib.ListN.{length, take, length-append}
+use Rattle.std.specs.Prelude.{Result, Ok, Err}
 use Rattle.refusal.specs.Answer.{Answer, given, refused, onward, fitted}
 use Rattle.refusal.specs.declared.Refusal.TheVariants.{BadFreeze}
-use Rattle.refusal.specs.declared.Written.{Written}
-use Rattle.refusal.specs.declared.Written.TheVariants.{Length, Refused}
 use Rattle.refusal.proofs.Answers.{onward_given, same_given}
 use Rattle.refusal.proofs.Distinct.{one_written}
+use Rattle.refusal.specs.declared.Refusal.{Refusal}
 use Rattle.framing.specs.Framing.{Converts}
 use Rattle.stream.specs.declared.Form.{Form}
 use Rattle.stream.specs.declared.Form.TheVariants.{Old, New}
@@ -29,14 +29,14 @@ use Rattle.stream_guarantees.proofs.Streams.{is_stream, of_stream, not_thawed, n
 to_other : (from : Form) (s : List ℕ) (l : List Frozen) → IsStreamOf from s l → converted from s ≡ given (stream_of (other_form from) l)
 to_other from s l i = ap (λ (a : Answer (List Frozen)). onward a (λ x. given (stream_of (other_form from) x))) (of_stream from s l i)
 
-module _ (from : Form) (s old : List ℕ) (r : Written) (new : List ℕ) (promise : Converts (converted from s) old r new) where
+module _ (from : Form) (s old : List ℕ) (r : Result ℕ Refusal) (new : List ℕ) (promise : Converts (converted from s) old r new) where
   -- What was written is the stream of such a list.
   record Written-as (n : ℕ) : Type 0 where
     messages : List Frozen
     is : IsStreamOf from s messages
     fits : length (stream_of (other_form from) messages) ≤ length old
 
-  written_as : (n : ℕ) → r ≡ Length n → Written-as n
+  written_as : (n : ℕ) → r ≡ Ok n → Written-as n
   written_as n e =
       let c = came (converted from s) old r new promise n e in
       let o = onward_given (thawed_strictly from s) (λ l. given (stream_of (other_form from) l)) c.bytes c.is in
@@ -109,6 +109,6 @@ mixed_forms form l z o =
     let t : thawed form s ≡ refused 19 = not_thawed form s (no_mixture form l z o) in
     record {
       judging = λ other r p. no_stream form other s r p (no_mixture form l z o);
-      thawing = λ oldList oldOut r newList newOut p. one_written r (Refused BadFreeze) (p.answer ∙ ap (λ (a : Answer (List Frozen)). onward (onward a strict) (listed (length oldList) (length oldOut))) t);
-      converting = λ old r new p. one_written r (Refused BadFreeze) (p.answer ∙ ap (λ (a : Answer (List Frozen)). onward (onward (onward a strict) (λ x. given (stream_of (other_form form) x))) (fitted (length old))) t);
+      thawing = λ oldList oldOut r newList newOut p. one_written r (Err BadFreeze) (p.answer ∙ ap (λ (a : Answer (List Frozen)). onward (onward a strict) (listed (length oldList) (length oldOut))) t);
+      converting = λ old r new p. one_written r (Err BadFreeze) (p.answer ∙ ap (λ (a : Answer (List Frozen)). onward (onward (onward a strict) (λ x. given (stream_of (other_form form) x))) (fitted (length old))) t);
     }

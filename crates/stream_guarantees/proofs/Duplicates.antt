@@ -7,6 +7,7 @@ use native.Mathlib.Omega.{arith}
 use lib.ListN.{length, drop, replicate, length-replicate}
 use lib.Seq.{sets}
 use borrow.Author.Tests.{le-ltb}
+use Rattle.std.specs.Prelude.{Result, Ok, Err}
 use Rattle.ground.proofs.Choice.{on_lt}
 use Rattle.ground.proofs.Part.{part_after}
 use Rattle.rfc.specs.Duplicates.{Arrival, Verdict, new, fresh, last_time}
@@ -14,16 +15,14 @@ use Rattle.refusal.specs.Answer.{Answer, given, refused, outcome, after}
 use Rattle.refusal.specs.Number.{number_of}
 use Rattle.refusal.specs.declared.Refusal.{Refusal}
 use Rattle.refusal.specs.declared.Refusal.TheVariants.{NoRoom, ClockBack}
-use Rattle.refusal.specs.declared.Outcome.TheVariants.{Done}
 use Rattle.refusal.proofs.Answers.{not_refused}
 use Rattle.refusal.proofs.Distinct.{distinct, one_outcome}
 use Rattle.hearing.specs.Table.{lowest}
 use Rattle.hearing.specs.Bytes.{table_size, places}
 use Rattle.hearing.specs.Hearing.{Fits, hearing, leaving, verdict_of, heard_of, clearing, Hears}
 use Rattle.hearing.specs.Told.{Holds, NoPlace, Why}
+use Rattle.hearing.specs.declared.Verdict.{Verdict as Word}
 use Rattle.hearing.specs.declared.Verdict.TheVariants.{New, Duplicate, Passed}
-use Rattle.hearing.specs.declared.Heard.{Heard}
-use Rattle.hearing.specs.declared.Heard.TheVariants.{Is, Refused}
 use Rattle.hearing.proofs.Answers.{sixty_four, is_back, is_short}
 use Rattle.hearing.proofs.Left.{taken, places_left, lowest_free, none_below, behind_left, unchanged}
 use Rattle.hearing.proofs.Telling.{accepted, told_roomy, told_why, why_told}
@@ -36,24 +35,24 @@ use Rattle.guarantees.proofs.Refusals.{kept_by}
 
 module _ (before : ℕ) (news : List Arrival) (m : Arrival) (f : Fits m) (old : List ℕ) (k : Holds before old news) where
   -- Why a call is refused, by the history; and that it is refused for each reason.
-  heard_why : (r : Heard) → heard_of r ≡ hearing before old m → (e : Refusal) → r ≡ Refused e → Why 1 before news m (number_of e)
+  heard_why : (r : Result Word Refusal) → heard_of r ≡ hearing before old m → (e : Refusal) → r ≡ Err e → Why 1 before news m (number_of e)
   heard_why r p e i =
       told_why 1 before news m (number_of e)
       (told_roomy 1 before news m (omega arith) ∙ (sym (agrees before old news m k) ∙ (sym p ∙ ap heard_of i)))
 
-  why_heard : (r : Heard) → heard_of r ≡ hearing before old m → (e : Refusal) → Why 1 before news m (number_of e) → r ≡ Refused e
+  why_heard : (r : Result Word Refusal) → heard_of r ≡ hearing before old m → (e : Refusal) → Why 1 before news m (number_of e) → r ≡ Err e
   why_heard r p e w =
-      one_heard r (Refused e)
+      one_heard r (Err e)
       (p ∙ (agrees before old news m k ∙ (sym (told_roomy 1 before news m (omega arith)) ∙ why_told 1 before news m (number_of e) w)))
 
-  back_is : (r : Heard) → heard_of r ≡ hearing before old m → r ≡ Refused ClockBack → m.time < before
+  back_is : (r : Result Word Refusal) → heard_of r ≡ hearing before old m → r ≡ Err ClockBack → m.time < before
   back_is r p i = ⊎_elim (λ w. w.1) (λ w. absurd (omega (arith, w.0))) (heard_why r p ClockBack i)
 
-  full_is : (r : Heard) → heard_of r ≡ hearing before old m → r ≡ Refused NoRoom → (before ≤ m.time) × NoPlace news m
+  full_is : (r : Result Word Refusal) → heard_of r ≡ hearing before old m → r ≡ Err NoRoom → (before ≤ m.time) × NoPlace news m
   full_is r p i =
       ⊎_elim (λ w. absurd (omega (arith, w.0))) (λ w. (w.1, ⊎_elim (λ z. absurd (omega arith)) (λ n. n) w.2)) (heard_why r p NoRoom i)
 
-  only_is : (r : Heard) → heard_of r ≡ hearing before old m → (e : Refusal) → r ≡ Refused e → (e ≡ ClockBack) ⊎ (e ≡ NoRoom)
+  only_is : (r : Result Word Refusal) → heard_of r ≡ hearing before old m → (e : Refusal) → r ≡ Err e → (e ≡ ClockBack) ⊎ (e ≡ NoRoom)
   only_is r p e i = ⊎_elim (λ w. inl (distinct e ClockBack w.0)) (λ w. inr (distinct e NoRoom w.0)) (heard_why r p e i)
 
   -- A new one takes the lowest free place.
@@ -69,28 +68,28 @@ module _ (before : ℕ) (news : List Arrival) (m : Arrival) (f : Fits m) (old : 
       }
 
   -- Where nothing else is known, an answer that isn't new changes nothing.
-  same_left : (r : Heard) → (r ≡ Is New → ⊥) → leaving (heard_of r) m old ≡ old
-  same_left (Is New) n = absurd (n refl)
-  same_left (Is Duplicate) n = refl
-  same_left (Is Passed) n = refl
-  same_left (Refused e) n = refl
+  same_left : (r : Result Word Refusal) → (r ≡ Ok New → ⊥) → leaving (heard_of r) m old ≡ old
+  same_left (Ok New) n = absurd (n refl)
+  same_left (Ok Duplicate) n = refl
+  same_left (Ok Passed) n = refl
+  same_left (Err e) n = refl
 
   behind_by : (a : Answer Verdict) → hearing before old m ≡ a → drop 1600 (leaving a m old) ≡ drop 1600 old
   behind_by (given v) e = behind_left before old m f v e
   behind_by (refused n) e = refl
 
-  by_history : (r : Heard) (left : List ℕ) → Hears before m old r left → ByHistory before news m old r left
+  by_history : (r : Result Word Refusal) (left : List ℕ) → Hears before m old r left → ByHistory before news m old r left
   by_history r left h =
       let left_by : left ≡ leaving (heard_of r) m old = h.table ∙ ap (λ (a : Answer Verdict). leaving a m old) (sym h.answer) in
       record {
         is =
             λ v i.
             let e : hearing before old m ≡ given (verdict_of v) = sym h.answer ∙ ap heard_of i in
-            let t : left ≡ leaving (given (verdict_of v)) m old = left_by ∙ ap (λ (x : Heard). leaving (heard_of x) m old) i in
+            let t : left ≡ leaving (given (verdict_of v)) m old = left_by ∙ ap (λ (x : Result Word Refusal). leaving (heard_of x) m old) i in
             ((accepted before news m (verdict_of v) (sym (agrees before old news m k) ∙ e)).is, rw t (kept before old news m k f (verdict_of v) e));
         takes =
             λ i.
-            takes_lowest left (sym h.answer ∙ ap heard_of i) (left_by ∙ ap (λ (x : Heard). leaving (heard_of x) m old) i);
+            takes_lowest left (sym h.answer ∙ ap heard_of i) (left_by ∙ ap (λ (x : Result Word Refusal). leaving (heard_of x) m old) i);
         stays = λ n. left_by ∙ same_left r n;
         behind = ap (drop 1600) h.table ∙ behind_by (hearing before old m) refl;
         back = (back_is r h.answer, λ t. why_heard r h.answer ClockBack (inl (refl, t)));
@@ -103,8 +102,8 @@ hears_history before news m f old k r left h = by_history before news m f old k 
 
 pub short_table : ShortTable
 short_table before m old r left h l = (
-  λ t. one_heard r (Refused ClockBack) (h.answer ∙ sym (is_back before old m t).answer),
-  λ t. one_heard r (Refused NoRoom) (h.answer ∙ sym (is_short before old m t l).answer),
+  λ t. one_heard r (Err ClockBack) (h.answer ∙ sym (is_back before old m t).answer),
+  λ t. one_heard r (Err NoRoom) (h.answer ∙ sym (is_short before old m t l).answer),
 )
 
 -- Clearing is refused exactly where the table is too short.
@@ -120,10 +119,10 @@ zeroed a size old left e g = e ∙ ap (λ (x : Answer (Unit {0})). after x 0 (re
 
 pub cleared_table : ClearedTable
 cleared_table old r left c =
-    let cleared : r ≡ Done → clearing (length old) ≡ given tt = λ i. sym c.answer ∙ ap outcome i in
-    let size : r ≡ Done → table_size ≤ length old = λ i. done_size (length old) (cleared i) in
-    let table : r ≡ Done → left ≡ sets old 0 (replicate table_size 0) = λ i. zeroed (clearing (length old)) table_size old left c.table (cleared i) in (
-      (size, λ h. one_outcome r Done (c.answer ∙ rw (le-ltb (length old) table_size h))),
+    let cleared : r ≡ Ok tt → clearing (length old) ≡ given tt = λ i. sym c.answer ∙ ap outcome i in
+    let size : r ≡ Ok tt → table_size ≤ length old = λ i. done_size (length old) (cleared i) in
+    let table : r ≡ Ok tt → left ≡ sets old 0 (replicate table_size 0) = λ i. zeroed (clearing (length old)) table_size old left c.table (cleared i) in (
+      (size, λ h. one_outcome r (Ok tt) (c.answer ∙ rw (le-ltb (length old) table_size h))),
       λ i. (rw (table i) (cleared_holds old (size i)), ap (drop table_size) (table i) ∙ behind_zeros old table_size),
     )
 

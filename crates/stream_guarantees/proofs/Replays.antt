@@ -6,6 +6,7 @@ use native.Mathlib.Omega.{arith}
 use lib.ListN.{length, drop, length-append, length-map}
 use lib.Seq.{sets}
 use borrow.Author.Tests.{lt-ltb, le-ltb}
+use Rattle.std.specs.Prelude.{Result, Ok, Err}
 use Rattle.ground.specs.Part.{Bytes}
 use Rattle.ground.proofs.Part.{put_front}
 use Rattle.rfc.specs.Duplicates.{Arrival, Verdict, history, history_from, fresh, fresh_after, last_time}
@@ -13,8 +14,6 @@ use Rattle.refusal.specs.Answer.{Answer, given, refused, onward, outcome}
 use Rattle.refusal.specs.Number.{number_of}
 use Rattle.refusal.specs.declared.Refusal.{Refusal}
 use Rattle.refusal.specs.declared.Refusal.TheVariants.{NoRoom, BadFreeze}
-use Rattle.refusal.specs.declared.Outcome.{Outcome}
-use Rattle.refusal.specs.declared.Outcome.TheVariants.{Done, Refused}
 use Rattle.refusal.proofs.Answers.{not_refused, onward_given, on_given}
 use Rattle.refusal.proofs.Distinct.{one_outcome}
 use Rattle.header.specs.Header.{number_of_type}
@@ -27,7 +26,7 @@ use Rattle.hearing.specs.Bytes.{table_size}
 use Rattle.hearing.specs.Hearing.{Fits, hearing, leaving, verdict_of, heard_of, clearing, Hears, Clears}
 use Rattle.hearing.specs.Calls.{letter, calling, Calls, further, calls_from, AllFit, Ran}
 use Rattle.hearing.specs.Told.{Holds, Why, Ended}
-use Rattle.hearing.specs.declared.Heard.{Heard}
+use Rattle.hearing.specs.declared.Verdict.{Verdict as Word}
 use Rattle.hearing.proofs.Telling.{told_why, why_told}
 use Rattle.hearing.proofs.Step.{kept}
 use Rattle.hearing.proofs.Turns.{with_room, listed, agrees_in, whole, ended, followed, in_two, in_order}
@@ -36,8 +35,6 @@ use Rattle.tracing.specs.Trace.{Timed, AllTimed, trace_of, messages_of}
 use Rattle.tracing.specs.TimedMessages.{form_of, traced}
 use Rattle.tracing.specs.Judging.{strictly, traced_strictly, count_of, judged, Judges}
 use Rattle.tracing.specs.Arrivals.{arrival_of, arrivals_of}
-use Rattle.tracing.specs.declared.Judged.{Judged}
-use Rattle.tracing.specs.declared.Judged.TheVariants.{Messages, Refused as NotJudged}
 use Rattle.tracing.proofs.Exact.{exact, one_form, trace_append, stream_no_trace, trace_no_stream}
 use Rattle.tracing.proofs.Counted.{strict_list, traced_of, Counted, counted, uncounted}
 use Rattle.tracing.proofs.Arrivals.{header_read, id_small}
@@ -64,8 +61,8 @@ of_trace form s l i =
     let t : traced s ≡ given l = ap traced i.bytes ∙ exact.complete form l i.timed in
     ap (λ (a : Answer (List Timed)). onward a strictly) t ∙ rw (all_strict_lem (messages_of l) i.accepted) refl
 
-judged_by : (s : List ℕ) (r : Judged) → Judges s r → (l : List Timed) → traced_strictly s ≡ given l → r ≡ Messages (length l)
-judged_by s r p l e = one_judged r (Messages (length l)) (p ∙ ap count_of e)
+judged_by : (s : List ℕ) (r : Result ℕ Refusal) → Judges s r → (l : List Timed) → traced_strictly s ≡ given l → r ≡ Ok (length l)
+judged_by s r p l e = one_judged r (Ok (length l)) (p ∙ ap count_of e)
 
 pub trace_judged_exactly : TraceJudgedExactly
 trace_judged_exactly s b r p = (
@@ -86,13 +83,13 @@ one_trace f g s l m i j = (
 )
 
 -- A trace that isn't read is refused 19.
-not_traced : (s : List ℕ) (r : Judged) → Judges s r → traced s ≡ refused 19 → r ≡ NotJudged BadFreeze
-not_traced s r p e = one_judged r (NotJudged BadFreeze) (p ∙ ap (λ (a : Answer (List Timed)). count_of (onward a strictly)) e)
+not_traced : (s : List ℕ) (r : Result ℕ Refusal) → Judges s r → traced s ≡ refused 19 → r ≡ Err BadFreeze
+not_traced s r p e = one_judged r (Err BadFreeze) (p ∙ ap (λ (a : Answer (List Timed)). count_of (onward a strictly)) e)
 
 pub no_trace : NoTrace
 no_trace s b r p none = by (traced s) refl (exact.refusal s)
   where
-    by : (a : Answer (List Timed)) → traced s ≡ a → Only19 a → r ≡ NotJudged BadFreeze
+    by : (a : Answer (List Timed)) → traced s ≡ a → Only19 a → r ≡ Err BadFreeze
     by (given l) e o = let h = exact.sound s l b e in absurd (none (form_of s) l h.1 h.0)
     by (refused k) e o = not_traced s r p (e ∙ ap refused o)
 
@@ -172,7 +169,7 @@ quiet room before s [] e = (refl, refl)
 quiet room before s (m ∷ ms) e = quiet_turn s (calls_from (room - 1) m.time (leaving (calling room before s m) m s) ms) (calling room before s m) e
 
 -- Messages heard one after the other are calls in turn, where the listing has a place for each.
-in_turn_one : (room before : ℕ) (s : List ℕ) (m : Arrival) (ms : List Arrival) (r : Heard) (mid : List ℕ) (v : Verdict) → 0 < room → Hears before m s r mid → heard_of r ≡ given v
+in_turn_one : (room before : ℕ) (s : List ℕ) (m : Arrival) (ms : List Arrival) (r : Result Word Refusal) (mid : List ℕ) (v : Verdict) → 0 < room → Hears before m s r mid → heard_of r ≡ given v
     → calls_from room before s (m ∷ ms) ≡ further (given v) s (calls_from (room - 1) m.time mid ms)
 unfolding calls_from
 in_turn_one room before s m ms r mid v some h e =
@@ -255,22 +252,22 @@ module _ (s table listing : List ℕ) (r : Replayed) (left listed : List ℕ) (p
   unfolding replaying
   unbegun k e = subst (λ (a : Answer (List Timed)). Ran (replayed_from a (length listing) table) listing (outcome r.outcome) r.count left listed) e promise
 
-  as_judged : (j : Judged) → Judges s j → (e : Refusal) → j ≡ NotJudged e → r.outcome ≡ Refused e
+  as_judged : (j : Result ℕ Refusal) → Judges s j → (e : Refusal) → j ≡ Err e → r.outcome ≡ Err e
   unfolding begins
   as_judged j p e i =
       let t : traced_strictly s ≡ refused (number_of e) = uncounted s (number_of e) (sym (ap judged i) ∙ p) in
-      one_outcome r.outcome (Refused e) (unbegun (number_of e) (rw t refl)).outcome
+      one_outcome r.outcome (Err e) (unbegun (number_of e) (rw t refl)).outcome
 
-  too_short : (j : Judged) → Judges s j → (n : ℕ) → j ≡ Messages n → length table < table_size → r.outcome ≡ Refused NoRoom
+  too_short : (j : Result ℕ Refusal) → Judges s j → (n : ℕ) → j ≡ Ok n → length table < table_size → r.outcome ≡ Err NoRoom
   unfolding begins
   too_short j p n i h =
       let c : Counted s n = counted s n (sym (ap judged i) ∙ p) in
-      one_outcome r.outcome (Refused NoRoom) (unbegun 12 (rw (c.are, lt-ltb (length table) table_size h) refl)).outcome
+      one_outcome r.outcome (Err NoRoom) (unbegun 12 (rw (c.are, lt-ltb (length table) table_size h) refl)).outcome
 
   -- It is refused, whatever for.
-  some_refusal : (o : Outcome) (k : ℕ) → outcome o ≡ refused k → (e : Refusal) × (o ≡ Refused e)
-  some_refusal Done k e = not_refused e
-  some_refusal (Refused x) k e = (x, refl)
+  some_refusal : (o : Result (Unit {0}) Refusal) (k : ℕ) → outcome o ≡ refused k → (e : Refusal) × (o ≡ Err e)
+  some_refusal (Ok u) k e = not_refused e
+  some_refusal (Err x) k e = (x, refl)
 
   begins_so : Bytes s → (l : List Timed) → begins s (length table) ≡ given l → Begins s table l
   unfolding begins
@@ -279,10 +276,10 @@ module _ (s table listing : List ℕ) (r : Replayed) (left listed : List ℕ) (p
       let q = onward_given (clearing (length table)) (λ _. given o.0) l o.2 in
       record { form = form_of s; trace = is_trace s b l (o.1 ∙ q.2); size = done_size (length table) q.1 }
 
-  never_begun : Bytes s → ((l : List Timed) → Begins s table l → ⊥) → ((e : Refusal) × (r.outcome ≡ Refused e)) × (r.count ≡ 0) × (left ≡ table) × (listed ≡ listing)
+  never_begun : Bytes s → ((l : List Timed) → Begins s table l → ⊥) → ((e : Refusal) × (r.outcome ≡ Err e)) × (r.count ≡ 0) × (left ≡ table) × (listed ≡ listing)
   never_begun b none = by (begins s (length table)) refl
     where
-      by : (a : Answer (List Timed)) → begins s (length table) ≡ a → ((e : Refusal) × (r.outcome ≡ Refused e)) × (r.count ≡ 0) × (left ≡ table) × (listed ≡ listing)
+      by : (a : Answer (List Timed)) → begins s (length table) ≡ a → ((e : Refusal) × (r.outcome ≡ Err e)) × (r.count ≡ 0) × (left ≡ table) × (listed ≡ listing)
       by (given l) e = absurd (none l (begins_so b l e))
       by (refused k) e = let u = unbegun k e in (some_refusal r.outcome k u.outcome, u.count, u.table, u.listing)
 
@@ -309,10 +306,10 @@ module _ (s : List ℕ) (small : Bytes s) (table listing : List ℕ) (r : Replay
     fit : AllFit (arrivals_of l)
     fit = all_fit l b.trace.timed (on_given AllBytes (traced s) l (traced_bytes (form_of s) s small (length s) 0) (traced_of s l traced_so))
 
-    is_done : (r.outcome ≡ Done) → (calls_of l).outcome ≡ given tt
+    is_done : (r.outcome ≡ Ok tt) → (calls_of l).outcome ≡ given tt
     is_done e = sym ran.outcome ∙ ap outcome e
 
-    is_refused : (e : Refusal) → r.outcome ≡ Refused e → (calls_of l).outcome ≡ refused (number_of e)
+    is_refused : (e : Refusal) → r.outcome ≡ Err e → (calls_of l).outcome ≡ refused (number_of e)
     is_refused e i = sym ran.outcome ∙ ap outcome i
 
   -- What messages leave that aren't refused.
@@ -356,8 +353,8 @@ module _ (s : List ℕ) (small : Bytes s) (table listing : List ℕ) (r : Replay
         ∙ (ap (followed d) (refused_first (length listing - length f) (last_time 0 f) d.table (arrival_of x.at) (arrivals_of x.rest) (number_of e) c)
         ∙ ap (λ (v : List ℕ). record { listing = v; table = d.table; outcome = refused (number_of e) }) (append-nil d.listing))))
 
-    stops_there : r.outcome ≡ Refused e
-    stops_there = one_outcome r.outcome (Refused e) ((ran l b).outcome ∙ ap (λ (c : Calls). c.outcome) stopped)
+    stops_there : r.outcome ≡ Err e
+    stops_there = one_outcome r.outcome (Err e) ((ran l b).outcome ∙ ap (λ (c : Calls). c.outcome) stopped)
 
     leaves_front : Leaves x.front table listing r.count left listed
     leaves_front =
@@ -365,7 +362,7 @@ module _ (s : List ℕ) (small : Bytes s) (table listing : List ℕ) (r : Replay
         leaves x.front b.size front_fits front_done
         (q.count ∙ ap (λ (c : Calls). length c.listing) stopped) (q.table ∙ ap (λ (c : Calls). c.table) stopped) (q.listing ∙ ap (λ (c : Calls). sets listing 0 c.listing) stopped)
 
-  stops_at : (l : List Timed) (b : Begins s table l) (e : Refusal) → r.outcome ≡ Refused e → Stops (length listing) l e
+  stops_at : (l : List Timed) (b : Begins s table l) (e : Refusal) → r.outcome ≡ Err e → Stops (length listing) l e
   stops_at l b e i =
       let y : Ended (length listing) 0 (cleared table) [] (arrivals_of l) (number_of e) (calls_of l) =
       ended (length listing) 0 (cleared table) [] (arrivals_of l) (number_of e) (holds_none l b) (fit l b) (is_refused l b e i) in
@@ -385,7 +382,7 @@ module _ (s : List ℕ) (small : Bytes s) (table listing : List ℕ) (r : Replay
 
   -- One call for each message that is listed.
   one_by_one : (front rest : List Timed) → Begins s table (front ++ rest) → r.count ≡ length front
-      → (o : Outcome) (mid : List ℕ) → Clears table o mid → (letters last : List ℕ) → InTurn 0 (arrivals_of front) mid letters last
+      → (o : Result (Unit {0}) Refusal) (mid : List ℕ) → Clears table o mid → (letters last : List ℕ) → InTurn 0 (arrivals_of front) mid letters last
       → (left ≡ last) × (listed ≡ letters ++ drop (length front) listing)
   one_by_one front rest b n o mid cl letters last x =
       let f : List Arrival = arrivals_of front in
@@ -416,7 +413,7 @@ module _ (s : List ℕ) (small : Bytes s) (table listing : List ℕ) (r : Replay
       record {
         done = λ l b. (
           λ e. none_refused (length listing) 0 (cleared table) [] (arrivals_of l) (holds_none l b) (fit l b) (is_done l b e),
-          λ x. one_outcome r.outcome Done ((ran l b).outcome ∙ all_done (length listing) 0 (cleared table) [] (arrivals_of l) (holds_none l b) (fit l b) x),
+          λ x. one_outcome r.outcome (Ok tt) ((ran l b).outcome ∙ all_done (length listing) 0 (cleared table) [] (arrivals_of l) (holds_none l b) (fit l b) x),
         );
         whole = λ l b e. let q = ran l b in leaves l b.size (fit l b) (is_done l b e) q.count q.table q.listing;
         stops = λ l b e. (stops_at l b e, stops_there l b e);

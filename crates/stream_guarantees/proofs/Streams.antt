@@ -8,16 +8,15 @@ use native.Mathlib.Omega.{arith}
 use lib.ListN.{length, take, drop, length-append}
 use lib.Seq.{sets, length-sets, take-append_seam, take_at, drop-append_seam, drop-append-add}
 use borrow.Author.Tests.{le-ltb}
+use Rattle.std.specs.Prelude.{Result, Ok, Err}
 use Rattle.ground.proofs.Choice.{on_lt}
 use Rattle.ground.proofs.Part.{put_front, sets_append}
 use Rattle.rfc.specs.Message.{WellFormed, layout}
 use Rattle.refusal.specs.Answer.{Answer, given, refused, onward, written, after, room_from}
-use Rattle.refusal.specs.Number.{number_of}
 use Rattle.refusal.specs.declared.Refusal.TheVariants.{BadFreeze}
-use Rattle.refusal.specs.declared.Written.{Written}
-use Rattle.refusal.specs.declared.Written.TheVariants.{Length}
 use Rattle.refusal.proofs.Answers.{not_refused, same_given, same_refused, onward_given, on_given, on_refused}
 use Rattle.refusal.proofs.Distinct.{distinct, one_written}
+use Rattle.refusal.specs.declared.Refusal.{Refusal}
 use Rattle.packet.specs.Limits.{full_size, max_store}
 use Rattle.packet.specs.Packet.{Stores, stores}
 use Rattle.packet.specs.Meaning.{meaning}
@@ -34,8 +33,8 @@ use Rattle.writing.specs.Writing.{writing, bytes_written, Held}
 use Rattle.writing.proofs.Sizes.{message_length}
 use Rattle.writing.proofs.Strict.{Writable, strict_writes, strict_written}
 use Rattle.stream.specs.declared.Form.{Form}
-use Rattle.stream.specs.declared.Step.TheVariants.{Message, Refused as NoMessage}
-use Rattle.stream.specs.declared.Judged.TheVariants.{Messages as Judged, Refused as NotJudged}
+use Rattle.stream.specs.declared.Step.{Step}
+use Rattle.stream.specs.declared.Tally.{Tally as Told}
 use Rattle.stream.specs.Answers.{Extent, Tally, step_read, judged as streamJudged}
 use Rattle.stream.specs.Stream.{Frozen, Sized, AllSized, message_of, stream_of, datagrams_of}
 use Rattle.stream.specs.Messages.{thawed}
@@ -44,7 +43,6 @@ use Rattle.stream.proofs.Exact.{exact, stream_append, Only19}
 use Rattle.stream.proofs.Sizes.{message_size_lem}
 use Rattle.thawing.specs.Thawing.{all_strict, strict, thawed_strictly, Counts, counts_of, strictly_in, Strictly, entries, listed, thawing, Thaws}
 use Rattle.thawing.specs.declared.Strict.{Strict}
-use Rattle.thawing.specs.declared.Strict.TheVariants.{Messages, Refused as NoMessages}
 use Rattle.thawing.proofs.Apart.{standing_judged}
 use Rattle.thawing.proofs.Thawed.{Counted, counted, thawed_of, strict_same}
 use Rattle.thawing.proofs.Listing.{entries_length}
@@ -54,7 +52,7 @@ use Rattle.stream_guarantees.specs.StreamOf.{AllAccepted, IsStreamOf}
 use Rattle.stream_guarantees.specs.Streams.{JudgedInPlace, JudgedExactly, OneList, Roomy, Holds, ThawsExactly, Thawing, Appended, Item, AllProper, message_for, InTurn, FrozenThenThawed, ThawedThenFrozen, RoomOfTheStream, NoStream, PeersAt, MessageSizes, Comes, AllCome, StreamAgain, StreamKept, ToldApart, OneThawing, OneFreezing}
 use Rattle.guarantees.specs.Apart.{TellsApart}
 use Rattle.guarantees.proofs.StrictReading.{done}
-use Rattle.guarantees.proofs.Refusals.{output_kept}
+use Rattle.guarantees.proofs.Refusals.{output_kept, said_apart}
 
 pub judged_in_place : JudgedInPlace
 judged_in_place form before after m r z p =
@@ -104,20 +102,20 @@ module _ (form : Form) (s : List ℕ) where
 pub one_list : OneList
 one_list form s l m i j = (exact form).unique l m i.sized j.sized (sym i.bytes ∙ j.bytes)
 
-judged_by : (form other : Form) (s : List ℕ) (r : Strict) → Strictly form other s r → (l : List Frozen) → thawed_strictly form s ≡ given l → (count : ℕ) × (bytes : ℕ) × (chunks : ℕ) × (r ≡ Messages count bytes chunks)
-judged_by form other s (Messages count bytes chunks) p l e = (count, bytes, chunks, refl)
-judged_by form other s (NoMessages k) p l e = not_refused (sym (p ∙ ap (counts_of other) e))
+judged_by : (form other : Form) (s : List ℕ) (r : Result Strict Refusal) → Strictly form other s r → (l : List Frozen) → thawed_strictly form s ≡ given l → (t : Strict) × (r ≡ Ok t)
+judged_by form other s (Ok t) p l e = (t, refl)
+judged_by form other s (Err k) p l e = not_refused (sym (p ∙ ap (counts_of other) e))
 
 pub judged_exactly : JudgedExactly
 judged_exactly form other s r p = (
-  λ x. let c : Counted form other s x.0 x.1 x.2 = counted form other s x.0 x.1 x.2 (sym (ap strictly_in x.3) ∙ p) in (c.messages, is_stream form s c.messages c.are),
+  λ x. let t : Strict = x.0 in let c : Counted form other s t.count t.bytes t.chunks = counted form other s t.count t.bytes t.chunks (sym (ap strictly_in x.1) ∙ p) in (c.messages, is_stream form s c.messages c.are),
   λ x. judged_by form other s r p x.0 (of_stream form s x.0 x.1),
 )
 
 -- A refusal that is 19 is BadFreeze.
-pub is_19 : (r : Strict) → strictly_in r ≡ refused 19 → r ≡ NoMessages BadFreeze
-is_19 (Messages a b c) e = not_refused e
-is_19 (NoMessages x) e = let n : number_of x ≡ number_of BadFreeze = same_refused e in ap NoMessages (distinct x BadFreeze n)
+pub is_19 : (r : Result Strict Refusal) → strictly_in r ≡ refused 19 → r ≡ Err BadFreeze
+is_19 (Ok t) e = not_refused e
+is_19 (Err x) e = ap Err (distinct x BadFreeze (same_refused e))
 
 -- Bytes that are no stream of a form aren't read in it.
 pub not_thawed : (form : Form) (s : List ℕ) → ((l : List Frozen) → AllSized l → s ≡ stream_of form l → ⊥) → thawed form s ≡ refused 19
@@ -148,7 +146,7 @@ peers_from form front (m ∷ l) a =
     ap (take 18) (drop-append-add front (one ++ rest) 1 ∙ append_assoc m.peer _ rest) ∙ take_at m.peer _ 18 a.0.peer in
     (here, later)
 
-module _ (form : Form) (s oldList oldOut : List ℕ) (r : Written) (newList newOut : List ℕ) (promise : Thaws form s oldList oldOut r newList newOut) where
+module _ (form : Form) (s oldList oldOut : List ℕ) (r : Result ℕ Refusal) (newList newOut : List ℕ) (promise : Thaws form s oldList oldOut r newList newOut) where
   holds : (l : List Frozen) → IsStreamOf form s l → Roomy l oldList oldOut → Holds form l oldList oldOut r newList newOut
   unfolding thawing listed
   holds l i room =
@@ -158,7 +156,7 @@ module _ (form : Form) (s oldList oldOut : List ℕ) (r : Written) (newList newO
       rw (e, le-ltb (length oldList) (3 * length l) room.places, le-ltb (length oldOut) (length (datagrams_of l)) room.room) refl in
       let n = entries_length form 0 0 l in
       record {
-        answer = one_written r (Length (length l)) (promise.answer ∙ a);
+        answer = one_written r (Ok (length l)) (promise.answer ∙ a);
         list = promise.list ∙ (rw (a, t) (put_front oldList (entries form 0 0 l) (omega (arith, n, room.places)) ∙ ap (λ (k : ℕ). entries form 0 0 l ++ drop k oldList) n));
         output = promise.output ∙ (rw (a, t) (put_front oldOut (datagrams_of l) room.room));
       }
@@ -170,7 +168,7 @@ module _ (form : Form) (s oldList oldOut : List ℕ) (r : Written) (newList newO
       on_lt P (length oldList) (3 * length l) (λ h e. not_refused (sym e))
       (λ h. on_lt P (length oldOut) (length (datagrams_of l)) (λ k e. not_refused (sym e)) (λ k e. record { places = h; room = k }))
 
-  read_as : (n : ℕ) → r ≡ Length n → (l : List Frozen) × IsStreamOf form s l × Roomy l oldList oldOut
+  read_as : (n : ℕ) → r ≡ Ok n → (l : List Frozen) × IsStreamOf form s l × Roomy l oldList oldOut
   unfolding thawing
   read_as n e =
       let o = onward_given (thawed_strictly form s) (listed (length oldList) (length oldOut)) n (sym promise.answer ∙ ap written e) in
@@ -201,7 +199,7 @@ room_by : (size start : ℕ) (bytes : List ℕ) (k n : ℕ) → room_from size s
 room_by size start bytes k n =
     on_lt (λ (a : Answer ℕ). a ≡ given n → (start + length bytes ≤ size) × (k ≡ n)) size (start + length bytes) (λ h e. not_refused (sym e)) (λ h e. (h, same_given e))
 
-froze : (form : Form) (i : Item) → Shaped i.packet → Held i.lent → (old : List ℕ) (start : ℕ) (r : Written) (n : ℕ) (mid : List ℕ) → Freezes form i.peer i.packet i.lent old start r mid → r ≡ Length n → Froze form i old start n mid
+froze : (form : Form) (i : Item) → Shaped i.packet → Held i.lent → (old : List ℕ) (start : ℕ) (r : Result ℕ Refusal) (n : ℕ) (mid : List ℕ) → Freezes form i.peer i.packet i.lent old start r mid → r ≡ Ok n → Froze form i old start n mid
 unfolding freezing strict_datagram
 froze form i shaped b old start r n mid f e =
     let a : freezing form (length old) start i.peer i.lent i.packet ≡ given n = sym f.answer ∙ ap written e in
@@ -269,8 +267,8 @@ frozen_then_thawed form l a old end new t oldList oldOut r newList newOut room p
 same_message : (m : Frozen) (i : Item) → Comes m i → message_for i ≡ m
 same_message m i c =
     let s : List ℕ = m.datagram in
-    let p : Packet = c.decoded.packet in
-    let gives : reading true s ≡ given p = done c.decoded (reading true s) c.read c.done in
+    let p : Packet = c.packet in
+    let gives : reading true s ≡ given p = done (Ok p) p (reading true s) c.read refl in
     let a = on_given (λ (q : Packet). (beside : List ℕ) → WellFormed (meaning (stores s beside) q) × (layout (meaning (stores s beside) q) ≡ s)) (reading true s) p (accepted s c.bytes) gives c.edits in
     ap message_for c.is ∙ ap (λ (x : List ℕ). record { peer = m.peer; datagram = x }) a.1
 
@@ -285,11 +283,10 @@ stream_again form s l is k c a old end new t = stands form k a old end new t ∙
 
 pub thawed_then_frozen : ThawedThenFrozen
 unfolding freezing strict_datagram is_too_long
-thawed_then_frozen form m d b read is most edits held short old start r new room f =
+thawed_then_frozen form m d p b read is most edits held short old start r new room f =
     let s : List ℕ = m.datagram in
     let t : Stores = stores s edits in
-    let p : Packet = d.packet in
-    let gives : reading true s ≡ given p = done d (reading true s) read is in
+    let gives : reading true s ≡ given p = done d p (reading true s) read is in
     let a = on_given (λ (q : Packet). (beside : List ℕ) → WellFormed (meaning (stores s beside) q) × (layout (meaning (stores s beside) q) ≡ s)) (reading true s) p (accepted s b) gives edits in
     let k = on_given (Kept s) (reading true s) p (kept true s b) gives in
     let fits = (on_given (Taken true s) (reading true s) p (taken true s b) gives).fits in
@@ -300,7 +297,7 @@ thawed_then_frozen form m d b read is most edits held short old start r new room
     let same : z ≡ m = ap (λ (x : List ℕ). record { peer = m.peer; datagram = x }) a.1 in
     let h : freezing form (length old) start m.peer t p ≡ given (length (message_of form m)) =
     rw w (ap (λ (x : Frozen). frozen_in form (length old) start x) same ∙ rw (le-ltb (length old) (start + length (message_of form m)) room) refl) in (
-      one_written r (Length (length (message_of form m))) (f.answer ∙ h),
+      one_written r (Ok (length (message_of form m))) (f.answer ∙ h),
       f.output ∙ (ap (λ (x : Answer ℕ). after x start (message_of form z) old) h ∙ ap (λ (x : Frozen). sets old start (message_of form x)) same),
     )
 
@@ -327,24 +324,19 @@ stream_kept form peer p s old start r new q e is =
     output_kept (freezing form (length old) start peer s p) start (message_of form (record { peer = peer; datagram = bytes_written true s p })) old r new q.answer q.output e is
 
 one_step : TellsApart step_read
-one_step (Message a b) (Message c d) e = let k : ◌≡◌ {A = Extent} (record { len = a; next = b }) (record { len = c; next = d }) = same_given e in rw (ap (λ (x : Extent). x.len) k, ap (λ (x : Extent). x.next) k)
-one_step (Message a b) (NoMessage y) e = cc
-one_step (NoMessage x) (Message c d) e = cc
-one_step (NoMessage x) (NoMessage y) e = let k : number_of x ≡ number_of y = cc in rw (distinct x y k)
+one_step =
+    said_apart Step Extent step_read (λ s. record { len = s.len; next = s.next })
+    (record { value = λ v. refl; refusal = λ e. refl; one = λ v w e. λ i. record { len = (e i).len; next = (e i).next } })
 
 one_stream : TellsApart streamJudged
-one_stream (Judged a b) (Judged c d) e = let k : ◌≡◌ {A = Tally} (record { count = a; bytes = b }) (record { count = c; bytes = d }) = same_given e in rw (ap (λ (x : Tally). x.count) k, ap (λ (x : Tally). x.bytes) k)
-one_stream (Judged a b) (NotJudged y) e = cc
-one_stream (NotJudged x) (Judged c d) e = cc
-one_stream (NotJudged x) (NotJudged y) e = let k : number_of x ≡ number_of y = cc in rw (distinct x y k)
+one_stream =
+    said_apart Told Tally streamJudged (λ t. record { count = t.count; bytes = t.bytes })
+    (record { value = λ v. refl; refusal = λ e. refl; one = λ v w e. λ i. record { count = (e i).count; bytes = (e i).bytes } })
 
 one_strict : TellsApart strictly_in
-one_strict (Messages a b c) (Messages d f g) e =
-    let k : ◌≡◌ {A = Counts} (record { count = a; bytes = b; chunks = c }) (record { count = d; bytes = f; chunks = g }) = same_given e in
-    rw (ap (λ (x : Counts). x.count) k, ap (λ (x : Counts). x.bytes) k, ap (λ (x : Counts). x.chunks) k)
-one_strict (Messages a b c) (NoMessages y) e = cc
-one_strict (NoMessages x) (Messages d f g) e = cc
-one_strict (NoMessages x) (NoMessages y) e = let k : number_of x ≡ number_of y = cc in rw (distinct x y k)
+one_strict =
+    said_apart Strict Counts strictly_in (λ t. record { count = t.count; bytes = t.bytes; chunks = t.chunks })
+    (record { value = λ v. refl; refusal = λ e. refl; one = λ v w e. λ i. record { count = (e i).count; bytes = (e i).bytes; chunks = (e i).chunks } })
 
 pub told_apart : ToldApart
 told_apart =

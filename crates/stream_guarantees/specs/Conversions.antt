@@ -1,34 +1,32 @@
 -- Conversions of a freeze stream between its two forms: the same messages, and there and back the same bytes.
-use Rattle.std.specs.Prelude.{ℕ, ◌≤◌, ◌≡◌, ◌↔◌, ◌⊎◌, List, [], ◌∷◌, ◌++◌, length, take}
+use Rattle.std.specs.Prelude.{ℕ, ◌≤◌, ◌≡◌, ◌↔◌, ◌⊎◌, List, [], ◌∷◌, ◌++◌, length, take, Result, Ok, Err}
 use Rattle.refusal.specs.declared.Refusal.TheVariants.{BadFreeze}
-use Rattle.refusal.specs.declared.Written.{Written}
-use Rattle.refusal.specs.declared.Written.TheVariants.{Length, Refused}
+use Rattle.refusal.specs.declared.Refusal.{Refusal}
 use Rattle.framing.specs.Framing.{Converts}
 use Rattle.stream.specs.declared.Form.{Form}
 use Rattle.stream.specs.declared.Form.TheVariants.{Old, New}
 use Rattle.stream.specs.Stream.{Frozen, Sized, AllSized, message_of, stream_of}
 use Rattle.thawing.specs.Thawing.{Strictly, Thaws}
 use Rattle.thawing.specs.declared.Strict.{Strict}
-use Rattle.thawing.specs.declared.Strict.TheVariants.{Refused as NotRead}
 use Rattle.converting.specs.Converting.{other_form, converted}
 use Rattle.guarantees.specs.Wrote.{Wrote}
 use Rattle.stream_guarantees.specs.StreamOf.{IsStreamOf}
 
-pub record ConvertsExactly (from : Form) (s old : List ℕ) (r : Written) (new : List ℕ) : Type 0 where
+pub record ConvertsExactly (from : Form) (s old : List ℕ) (r : Result ℕ Refusal) (new : List ℕ) : Type 0 where
   -- The stream of a list is written as the stream, in the other form, of the same list.
   pub writes : (l : List Frozen) → IsStreamOf from s l → length (stream_of (other_form from) l) ≤ length old → Wrote (stream_of (other_form from) l) old r new
   -- Something is written exactly when the stream is that of a list, and there is room for the other.
-  pub exactly : ((n : ℕ) × (r ≡ Length n)) ↔ ((l : List Frozen) × IsStreamOf from s l × (length (stream_of (other_form from) l) ≤ length old))
+  pub exactly : ((n : ℕ) × (r ≡ Ok n)) ↔ ((l : List Frozen) × IsStreamOf from s l × (length (stream_of (other_form from) l) ≤ length old))
 
 -- So it is of every stream and output, and of every answer that meets the promise.
 abbrev pub Converting : Type 0
-Converting = (from : Form) (s old : List ℕ) (r : Written) (new : List ℕ) → Converts (converted from s) old r new → ConvertsExactly from s old r new
+Converting = (from : Form) (s old : List ℕ) (r : Result ℕ Refusal) (new : List ℕ) → Converts (converted from s) old r new → ConvertsExactly from s old r new
 
 -- There and back: with room, what was written converts back to the stream, byte for byte, from either form.
 abbrev pub ThereAndBack : Type 0
 ThereAndBack =
-    (from : Form) (s old : List ℕ) (r : Written) (new : List ℕ) (n : ℕ) → Converts (converted from s) old r new → r ≡ Length n
-    → (old₂ : List ℕ) (r₂ : Written) (new₂ : List ℕ) → length s ≤ length old₂
+    (from : Form) (s old : List ℕ) (r : Result ℕ Refusal) (new : List ℕ) (n : ℕ) → Converts (converted from s) old r new → r ≡ Ok n
+    → (old₂ : List ℕ) (r₂ : Result ℕ Refusal) (new₂ : List ℕ) → length s ≤ length old₂
     → Converts (converted (other_form from) (take n new)) old₂ r₂ new₂ → Wrote s old₂ r₂ new₂
 
 -- Messages one after the other, each in the form that stands beside it.
@@ -48,9 +46,9 @@ SomeIn form (x ∷ l) = (x.0 ≡ form) ⊎ SomeIn form l
 
 -- The bytes are refused 19 as a stream of the form: judged, thawed and converted.
 pub record RefusedIn (form : Form) (s : List ℕ) : Type 0 where
-  pub judging : (other : Form) (r : Strict) → Strictly form other s r → r ≡ NotRead BadFreeze
-  pub thawing : (oldList oldOut : List ℕ) (r : Written) (newList newOut : List ℕ) → Thaws form s oldList oldOut r newList newOut → r ≡ Refused BadFreeze
-  pub converting : (old : List ℕ) (r : Written) (new : List ℕ) → Converts (converted form s) old r new → r ≡ Refused BadFreeze
+  pub judging : (other : Form) (r : Result Strict Refusal) → Strictly form other s r → r ≡ Err BadFreeze
+  pub thawing : (oldList oldOut : List ℕ) (r : Result ℕ Refusal) (newList newOut : List ℕ) → Thaws form s oldList oldOut r newList newOut → r ≡ Err BadFreeze
+  pub converting : (old : List ℕ) (r : Result ℕ Refusal) (new : List ℕ) → Converts (converted form s) old r new → r ≡ Err BadFreeze
 
 -- Messages of which one is in the other form are none of a form, wherever it stands; so where both forms stand, the bytes are
 -- refused as either.

@@ -1,10 +1,9 @@
 -- Peers as text: what is put is read back, and no two peers have one text.
-use Rattle.std.specs.Prelude.{ℕ, ◌≤◌, ◌≡◌, List, length, take}
+use Rattle.std.specs.Prelude.{ℕ, ◌≤◌, ◌≡◌, List, length, take, Result, Ok}
 use Rattle.ground.specs.Part.{Bytes}
-use Rattle.refusal.specs.declared.Outcome.TheVariants.{Done}
+use Rattle.refusal.specs.declared.Refusal.{Refusal}
 use Rattle.placing.specs.Put.{Puts}
 use Rattle.peers.specs.Text.{peer_text}
-use Rattle.peer_reading.specs.declared.Peer.{Peer}
 use Rattle.peer_reading.specs.Reading.{peer_in, peer_of, ReadsPeer}
 use Rattle.guarantees.specs.Apart.{TellsApart}
 
@@ -17,7 +16,7 @@ pub record IsPeer (p : List ℕ) : Type 0 where
 abbrev pub PutThenRead : Type 0
 PutThenRead =
     (p : List ℕ) → IsPeer p → (old : List ℕ) (n : ℕ) (new : List ℕ) → length (peer_text p) ≤ length old → Puts old 0 (peer_text p) n new
-    → (r : Peer) → ReadsPeer (peer_in (take n new)) r → (r.outcome ≡ Done) × (r.bytes ≡ p)
+    → (r : Result (List ℕ) Refusal) → ReadsPeer (peer_in (take n new)) r → r ≡ Ok p
 
 -- No two peers have one text.
 abbrev pub OnePeer : Type 0

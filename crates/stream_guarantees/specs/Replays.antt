@@ -1,14 +1,12 @@
 -- Traces and their replay: which traces there are, of which messages; and that a replay lists what the duplicate rule says of each
 -- message, up to the one that is refused.
-use Rattle.std.specs.Prelude.{ℕ, ◌-◌, ◌<◌, ◌≤◌, ◌≡◌, true, ◌↔◌, List, [], ◌∷◌, ◌++◌, map, length, drop}
+use Rattle.std.specs.Prelude.{ℕ, ◌-◌, ◌<◌, ◌≤◌, ◌≡◌, true, ◌↔◌, List, [], ◌∷◌, ◌++◌, map, length, drop, Result, Ok, Err}
 use Rattle.ground.specs.Part.{Bytes}
 use Rattle.rfc.specs.Duplicates.{Arrival, history, fresh, fresh_after, last_time}
 use Rattle.refusal.specs.Answer.{given, refused}
 use Rattle.refusal.specs.Number.{number_of}
 use Rattle.refusal.specs.declared.Refusal.{Refusal}
 use Rattle.refusal.specs.declared.Refusal.TheVariants.{NoRoom, BadFreeze}
-use Rattle.refusal.specs.declared.Outcome.{Outcome}
-use Rattle.refusal.specs.declared.Outcome.TheVariants.{Done, Refused}
 use Rattle.packet.specs.Packet.{stores}
 use Rattle.packet.specs.Meaning.{meaning}
 use Rattle.packet.specs.declared.Packet.{Packet}
@@ -17,20 +15,15 @@ use Rattle.stream.specs.declared.Form.{Form}
 use Rattle.stream.specs.Stream.{Frozen, stream_of}
 use Rattle.thawing.specs.Thawing.{Strictly}
 use Rattle.thawing.specs.declared.Strict.{Strict}
-use Rattle.thawing.specs.declared.Strict.TheVariants.{Refused as NotRead}
 use Rattle.hearing.specs.Bytes.{table_size}
 use Rattle.hearing.specs.Hearing.{verdict_of, Hears, Clears}
 use Rattle.hearing.specs.Calls.{letter}
 use Rattle.hearing.specs.Told.{Holds, Why}
 use Rattle.hearing.specs.declared.Verdict.{Verdict}
-use Rattle.hearing.specs.declared.Heard.{Heard}
-use Rattle.hearing.specs.declared.Heard.TheVariants.{Is}
 use Rattle.tracing.specs.Trace.{Timed, AllTimed, trace_of, messages_of}
 use Rattle.tracing.specs.Judging.{judged as traceJudged, Judges}
 use Rattle.tracing.specs.Answers.{timed_read}
 use Rattle.tracing.specs.Arrivals.{arrival_of, arrivals_of, arrived_in}
-use Rattle.tracing.specs.declared.Judged.{Judged}
-use Rattle.tracing.specs.declared.Judged.TheVariants.{Messages, Refused as NotJudged}
 use Rattle.replaying.specs.Replaying.{begins, Replays}
 use Rattle.replaying.specs.declared.Replayed.{Replayed}
 use Rattle.stream_guarantees.specs.StreamOf.{AllAccepted}
@@ -46,8 +39,8 @@ pub record IsTraceOf (form : Form) (s : List ℕ) (l : List Timed) : Type 0 wher
 -- A trace is refused neither 19 nor for a datagram exactly when it is that of such a list, in one of the two forms.
 abbrev pub TraceJudgedExactly : Type 0
 TraceJudgedExactly =
-    (s : List ℕ) → Bytes s → (r : Judged) → Judges s r
-    → ((n : ℕ) × (r ≡ Messages n)) ↔ ((form : Form) × (l : List Timed) × IsTraceOf form s l)
+    (s : List ℕ) → Bytes s → (r : Result ℕ Refusal) → Judges s r
+    → ((n : ℕ) × (r ≡ Ok n)) ↔ ((form : Form) × (l : List Timed) × IsTraceOf form s l)
 
 -- There is only one such list, which is counted; and a trace that has bytes has only one form.
 abbrev pub OneTrace : Type 0
@@ -55,24 +48,24 @@ OneTrace =
     (f g : Form) (s : List ℕ) (l m : List Timed) → IsTraceOf f s l → IsTraceOf g s m → (l ≡ m) × ((s ≡ [] → ⊥) → f ≡ g)
 
 abbrev pub TraceCounted : Type 0
-TraceCounted = (form : Form) (s : List ℕ) (l : List Timed) → IsTraceOf form s l → (r : Judged) → Judges s r → r ≡ Messages (length l)
+TraceCounted = (form : Form) (s : List ℕ) (l : List Timed) → IsTraceOf form s l → (r : Result ℕ Refusal) → Judges s r → r ≡ Ok (length l)
 
 -- What is no trace of either form is refused 19, whatever datagrams it has: where a time is missing, where one stands twice, between the
 -- records of a message or last, and for messages of both forms.
 abbrev pub NoTrace : Type 0
 NoTrace =
-    (s : List ℕ) → Bytes s → (r : Judged) → Judges s r → ((form : Form) (l : List Timed) → AllTimed l → s ≡ trace_of form l → ⊥)
-    → r ≡ NotJudged BadFreeze
+    (s : List ℕ) → Bytes s → (r : Result ℕ Refusal) → Judges s r → ((form : Form) (l : List Timed) → AllTimed l → s ≡ trace_of form l → ⊥)
+    → r ≡ Err BadFreeze
 
 -- A stream that has bytes is no trace, and a trace that has bytes is no stream.
 abbrev pub NoStreamIsTrace : Type 0
 NoStreamIsTrace =
-    (form : Form) (m : Frozen) (l : List Frozen) (r : Judged) → Judges (stream_of form (m ∷ l)) r → r ≡ NotJudged BadFreeze
+    (form : Form) (m : Frozen) (l : List Frozen) (r : Result ℕ Refusal) → Judges (stream_of form (m ∷ l)) r → r ≡ Err BadFreeze
 
 abbrev pub NoTraceIsStream : Type 0
 NoTraceIsStream =
-    (form other counted : Form) (m : Timed) (l : List Timed) (r : Strict) → Strictly other counted (trace_of form (m ∷ l)) r
-    → r ≡ NotRead BadFreeze
+    (form other counted : Form) (m : Timed) (l : List Timed) (r : Result Strict Refusal) → Strictly other counted (trace_of form (m ∷ l)) r
+    → r ≡ Err BadFreeze
 
 -- The trace of two lists is one after the other.
 abbrev pub TraceAppended : Type 0
@@ -120,26 +113,26 @@ pub record Leaves (l : List Timed) (table listing : List ℕ) (n : ℕ) (left li
 abbrev pub InTurn : ℕ → List Arrival → (old letters left : List ℕ) → Type 0
 InTurn before [] old letters left = (letters ≡ []) × (left ≡ old)
 InTurn before (m ∷ ms) old letters left =
-    (r : Heard) × (v : Verdict) × (mid : List ℕ) × (others : List ℕ) × Hears before m old r mid × (r ≡ Is v)
+    (r : Result Verdict Refusal) × (v : Verdict) × (mid : List ℕ) × (others : List ℕ) × Hears before m old r mid × (r ≡ Ok v)
     × (letters ≡ letter (verdict_of v) ∷ others) × InTurn m.time ms mid others left
 
 pub record ReplaysExactly (s table listing : List ℕ) (r : Replayed) (left listed : List ℕ) : Type 0 where
   -- Where it begins, nothing is refused exactly when no message is; the listing is then the history of all of them.
-  pub done : (l : List Timed) → Begins s table l → (r.outcome ≡ Done) ↔ NoneRefused (length listing) 0 [] (arrivals_of l)
-  pub whole : (l : List Timed) → Begins s table l → r.outcome ≡ Done → Leaves l table listing r.count left listed
+  pub done : (l : List Timed) → Begins s table l → (r.outcome ≡ Ok tt) ↔ NoneRefused (length listing) 0 [] (arrivals_of l)
+  pub whole : (l : List Timed) → Begins s table l → r.outcome ≡ Ok tt → Leaves l table listing r.count left listed
   -- It is refused exactly for the first message that is; table and listing are then what the messages before it leave.
-  pub stops : (l : List Timed) → Begins s table l → (e : Refusal) → (r.outcome ≡ Refused e) ↔ Stops (length listing) l e
+  pub stops : (l : List Timed) → Begins s table l → (e : Refusal) → (r.outcome ≡ Err e) ↔ Stops (length listing) l e
   pub part : (l : List Timed) → Begins s table l → (e : Refusal) (x : Stops (length listing) l e) → Leaves x.front table listing r.count left listed
   -- Either way they are what calls of `clear` and `hear` leave, one for each message that is listed.
   pub calls : (front rest : List Timed) → Begins s table (front ++ rest) → r.count ≡ length front
-      → (o : Outcome) (mid : List ℕ) → Clears table o mid → (letters after : List ℕ) → InTurn 0 (arrivals_of front) mid letters after
+      → (o : Result (Unit {0}) Refusal) (mid : List ℕ) → Clears table o mid → (letters after : List ℕ) → InTurn 0 (arrivals_of front) mid letters after
       → (left ≡ after) × (listed ≡ letters ++ drop (length front) listing)
   -- It doesn't begin where judging the trace is refused, and is refused for that; nor, 12, for a table under 1,600 bytes.
-  pub judged : (j : Judged) → Judges s j → (e : Refusal) → j ≡ NotJudged e → r.outcome ≡ Refused e
-  pub short : (j : Judged) → Judges s j → (n : ℕ) → j ≡ Messages n → length table < table_size → r.outcome ≡ Refused NoRoom
+  pub judged : (j : Result ℕ Refusal) → Judges s j → (e : Refusal) → j ≡ Err e → r.outcome ≡ Err e
+  pub short : (j : Result ℕ Refusal) → Judges s j → (n : ℕ) → j ≡ Ok n → length table < table_size → r.outcome ≡ Err NoRoom
   -- Where it doesn't begin it is refused, nothing is listed, and no byte changes.
   pub never : ((l : List Timed) → Begins s table l → ⊥)
-      → ((e : Refusal) × (r.outcome ≡ Refused e)) × (r.count ≡ 0) × (left ≡ table) × (listed ≡ listing)
+      → ((e : Refusal) × (r.outcome ≡ Err e)) × (r.count ≡ 0) × (left ≡ table) × (listed ≡ listing)
 
 -- So it is of every trace, table and listing, and of every answer that meets the promise.
 abbrev pub Replaying : Type 0

@@ -7,7 +7,7 @@ use Rattle.ground.specs.Table.{once}
 use Rattle.ground.proofs.Table.{one_place}
 use Rattle.tables.specs.Numbers.{option_numbers, content_formats}
 use Rattle.tables.specs.Place.{place_of}
-use Rattle.tables.specs.declared.Place.TheVariants.{At}
+use Rattle.std.specs.Prelude.{Some}
 use Rattle.tables.proofs.Places.{entry_place}
 
 -- How many there are.
@@ -31,8 +31,8 @@ pub one_format : (i j : ℕ) → i < length content_formats → j < length conte
 one_format = one_place content_formats formats_once
 
 -- The place of an entry is where it stands, in each table.
-pub option_place : (k : ℕ) → k < length option_numbers → place_of (get_or option_numbers k 0) option_numbers ≡ At k
+pub option_place : (k : ℕ) → k < length option_numbers → place_of (get_or option_numbers k 0) option_numbers ≡ Some k
 option_place = entry_place option_numbers options_once
 
-pub format_place : (k : ℕ) → k < length content_formats → place_of (get_or content_formats k 0) content_formats ≡ At k
+pub format_place : (k : ℕ) → k < length content_formats → place_of (get_or content_formats k 0) content_formats ≡ Some k
 format_place = entry_place content_formats formats_once

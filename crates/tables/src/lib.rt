@@ -1,7 +1,7 @@
 // The option numbers and content formats that have names, and where a number stands among them.
 #![tactic(auto)]
 
-ghost use Rattle.std.specs.Prelude.{◌≡◌};
+ghost use Rattle.std.specs.Prelude.{◌≡◌, ◌==◌, position};
 ghost use Rattle.ground.specs.Table.{listed};
 ghost use Rattle.tables.specs.Numbers.{option_numbers, content_formats};
 ghost use Rattle.tables.specs.Place.{place_of};
@@ -9,36 +9,22 @@ ghost use Rattle.tables.specs.Place.{place_of};
 pub mod content_format;
 pub mod option_number;
 
-// Where a number stands in a table, counted from 0.
-#[derive(Clone, Copy)]
-pub enum Place {
-    At(usize),
-    Unlisted,
-}
-
 // The first place of a number in a table.
-fn find(table: &[u16], number: u16) -> Place
-    ensures { result ≡ place_of number table.now }
+fn find(table: &[u16], number: u16) -> Option<usize>
+    ensures { result ≡ position (λ x. number == x) table.now }
 {
-    let mut i = 0;
-    while i < table.len() {
-        if number == table[i] {
-            return Place::At(i);
-        }
-        i += 1;
-    }
-    Place::Unlisted
+    table.iter().position(|entry| number == *entry)
 }
 
 // Where an option's number stands in `OPTION_NUMBERS`.
-pub fn option_index(number: u16) -> Place
+pub fn option_index(number: u16) -> Option<usize>
     ensures { result ≡ place_of number option_numbers }
 {
     find(&option_number::OPTION_NUMBERS, number)
 }
 
 // Where a content format's number stands in `CONTENT_FORMATS`.
-pub fn content_format_index(number: u16) -> Place
+pub fn content_format_index(number: u16) -> Option<usize>
     ensures { result ≡ place_of number content_formats }
 {
     find(&content_format::CONTENT_FORMATS, number)
@@ -48,8 +34,5 @@ pub fn content_format_index(number: u16) -> Place
 pub fn is_content_format(number: u16) -> bool
     ensures { result ≡ listed number content_formats }
 {
-    match content_format_index(number) {
-        Place::At(_) => true,
-        Place::Unlisted => false,
-    }
+    content_format_index(number).is_some()
 }

@@ -6,7 +6,6 @@ use native.Mathlib.Nat.{zero-add}
 use native.Mathlib.Omega.{arith}
 use lib.ListN.{length, take, drop, length-replicate}
 use lib.Seq.{sets, length-sets}
-use lib.Dec.{ltb}
 use borrow.Author.Tests.{lt-ltb, le-ltb}
 use Rattle.ground.proofs.Part.{sets_append}
 use Rattle.rfc.specs.Uri.{Kind, segment, query}
@@ -19,13 +18,18 @@ use Rattle.packet.specs.Packet.{none, new_packet}
 use Rattle.packet.specs.declared.OptionRecord.{OptionRecord}
 use Rattle.packet.specs.declared.Packet.{Packet}
 use Rattle.uri_text.specs.Reading.{values_of, reading}
-use Rattle.uri_text.specs.Tally.{first_length, Tally, total, tally}
-use Rattle.target_reading.specs.FromText.{Reply, passes, refused, refused_at, placed, reply_to, records_at, packet_with, packet_for, packet_of, store_of, bare, told, Beside, Answers}
+use Rattle.uri_text.specs.Tally.{first_length, Tally, total, tallied, tally}
+use Rattle.uri_text.specs.Judging.{fault_of}
+use Rattle.uri_text.specs.declared.BadPart.{BadPart}
+use Rattle.uri_text.specs.declared.BadPart.TheVariants.{Text, Option as AnOption}
+use Rattle.refusal.specs.declared.Refusal.TheVariants.{BadText}
+use Rattle.target_reading.specs.FromText.{Reply, passes, refused, refused_at, placed, reply_to, records_at, packet_with, packet_for, packet_of, store_of, bare, told, Answers}
 use Rattle.target_reading.specs.Placing.{goods, values_in, Placeable, Fills, target_in, Readable, Reads}
 use Rattle.target_reading.specs.declared.Filled.{Filled}
-use Rattle.target_reading.specs.declared.TargetRead.{TargetRead}
-use Rattle.target_reading.specs.declared.Verdict.{Verdict}
-use Rattle.target_reading.specs.declared.Verdict.TheVariants.{Passes}
+use Rattle.std.specs.Prelude.{Ok, Err}
+use Rattle.refusal.specs.declared.Fault.TheVariants.{Refused, BadOption}
+use Rattle.refusal.specs.declared.Refusal.{Refusal}
+use Rattle.refusal.specs.Number.{number_of}
 use Rattle.target_reading.proofs.Placing.{records_append, records_count, joined_length, segments_read, query_read}
 
 -- Parts whose values are known can be put, and are then what is filled.
@@ -139,22 +143,12 @@ tally_option i (good t) e = absurd (no_option i (record { count = length t.path 
 tally_option i bad_text e = let z : ◌≡◌ {A = ℕ} 0 1 = cc in absurd (omega arith)
 tally_option i (bad_option j) e = let z : i ≡ j = cc in ap bad_option (sym z)
 
--- A refusal, with the new packet beside it and the store as it was.
-pub refusal_shown : (a : Reply Target) (start k : ℕ) (old : List ℕ) (v : Verdict) (r : TargetRead) → a ≡ refused k → told v ≡ refused k → Beside v r → Answers a start old r old
-refusal_shown a start k old v r e tv b =
-    record {
-      outcome = ap told b.outcome ∙ (tv ∙ ap bare (sym e));
-      packet = b.packet ∙ ap (packet_of start) (sym e);
-      store = ap (λ (x : Reply Target). store_of start x old) (sym e);
-    }
+-- A refusal, beside which stands the new packet, and the store as it was.
+pub refusal_shown : (a : Reply Target) (start : ℕ) (old : List ℕ) (e : Refusal) → a ≡ refused (number_of e) → Answers a start old (Err (Refused e)) old
+refusal_shown a start old e is = rw is (record { outcome = refl; packet = refl; store = refl })
 
-pub option_shown : (a : Reply Target) (start i : ℕ) (old : List ℕ) (v : Verdict) (r : TargetRead) → a ≡ refused_at 16 i → told v ≡ refused_at 16 i → Beside v r → Answers a start old r old
-option_shown a start i old v r e tv b =
-    record {
-      outcome = ap told b.outcome ∙ (tv ∙ ap bare (sym e));
-      packet = b.packet ∙ ap (packet_of start) (sym e);
-      store = ap (λ (x : Reply Target). store_of start x old) (sym e);
-    }
+pub option_shown : (a : Reply Target) (start i : ℕ) (old : List ℕ) → a ≡ refused_at 16 i → Answers a start old (Err (BadOption i)) old
+option_shown a start i old is = rw is (record { outcome = refl; packet = refl; store = refl })
 
 -- The reply to a text, test by test.
 module _ (room start : ℕ) (s : List ℕ) where
@@ -197,8 +191,13 @@ module _ (room start : ℕ) (s : List ℕ) where
             in_reply
             ∙ rw (le-ltb max_options (length (target_in (reading s)).path + length (target_in (reading s)).query) not_many, le-ltb room (start + (total (target_in (reading s)).path + total (target_in (reading s)).query)) k) refl
 
+-- A text with a bad part: 15, or 16 with its index.
+pub fault_shown : (room start : ℕ) (s old : List ℕ) (bad : BadPart) → room ≤ max_store → tallied (Err bad) ≡ tally (reading s) → Answers (reply_to room start s) start old (Err (fault_of bad)) old
+fault_shown room start s old Text short e = refusal_shown _ start old BadText (reply_text room start s short (tally_text _ e))
+fault_shown room start s old (AnOption i) short e = option_shown _ start i old (reply_option room start s short i (tally_option i _ e))
+
 -- A text that passes.
-pub passes_shown : (room start : ℕ) (s old : List ℕ) (f : Filled) (new : List ℕ) (p : Packet) → reply_to room start s ≡ passes (target_in (reading s)) → Reads s start old f new → p ≡ packet_with f.count f.options → Answers (reply_to room start s) start old (record { outcome = Passes; packet = p }) new
+pub passes_shown : (room start : ℕ) (s old : List ℕ) (f : Filled) (new : List ℕ) (p : Packet) → reply_to room start s ≡ passes (target_in (reading s)) → Reads s start old f new → p ≡ packet_with f.count f.options → Answers (reply_to room start s) start old (Ok p) new
 unfolding packet_for
 passes_shown room start s old f new p e reads q =
     let t : Target = target_in (reading s) in

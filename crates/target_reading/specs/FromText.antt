@@ -1,11 +1,13 @@
 -- A path and query text to a new packet: the order of refusals, its records, and what the edit store then holds.
-use Rattle.std.specs.Prelude.{ℕ, ◌+◌, ◌≡◌, List, [], ◌∷◌, ◌++◌, length, ltb}
+use Rattle.std.specs.Prelude.{ℕ, ◌+◌, ◌≡◌, List, [], ◌∷◌, ◌++◌, length, ltb, Result, Ok, Err}
 use Rattle.std.proofs.lemmas.List.Edits.{sets}
 use Rattle.ground.specs.Choice.{pick}
 use Rattle.rfc.specs.Percent.{Read, good, bad_text, bad_option}
 use Rattle.rfc.specs.Target.{Target}
 use Rattle.rfc.specs.Text.{joined}
 use Rattle.refusal.specs.Number.{number_of}
+use Rattle.refusal.specs.declared.Fault.{Fault}
+use Rattle.refusal.specs.declared.Fault.TheVariants.{Refused, BadOption}
 use Rattle.packet.specs.Limits.{max_store, max_options}
 use Rattle.packet.specs.Packet.{new_packet}
 use Rattle.packet.specs.declared.Packet.{Packet}
@@ -13,9 +15,6 @@ use Rattle.packet.specs.declared.OptionRecord.{OptionRecord}
 use Rattle.packet.specs.declared.Home.TheVariants.{Edits}
 use Rattle.uri_text.specs.Reading.{reading}
 use Rattle.uri_text.specs.Tally.{total}
-use Rattle.target_reading.specs.declared.Verdict.{Verdict}
-use Rattle.target_reading.specs.declared.Verdict.TheVariants.{Passes, Refused, BadOption}
-use Rattle.target_reading.specs.declared.TargetRead.{TargetRead}
 
 -- What a text is answered: a value; a refusal's number; or a refusal's number and the index of a record, from 0.
 pub data Reply (A : Type 0) : Type 0 where
@@ -78,28 +77,28 @@ store_of start (passes t) old = sets old start (joined t.path ++ joined t.query)
 store_of start (refused k) old = old
 store_of start (refused_at k i) old = old
 
--- An answer without its value, and what a verdict says: BadOption is 16, and it alone names a record.
+-- An answer without its value, and what the code answers: BadOption is 16, and it alone names a record.
 abbrev pub bare : Reply Target → Reply (Unit {0})
 bare (passes t) = passes tt
 bare (refused k) = refused k
 bare (refused_at k i) = refused_at k i
 
-abbrev pub told : Verdict → Reply (Unit {0})
-told Passes = passes tt
-told (Refused e) = refused (number_of e)
-told (BadOption i) = refused_at 16 i
+abbrev pub told : Result Packet Fault → Reply (Unit {0})
+told (Ok p) = passes tt
+told (Err (Refused e)) = refused (number_of e)
+told (Err (BadOption i)) = refused_at 16 i
 
--- What a refusal shows: the new packet beside it.
-pub record Beside (verdict : Verdict) (r : TargetRead) : Type 0 where
-  pub outcome : r.outcome ≡ verdict
-  pub packet : r.packet ≡ new_packet
+-- The packet of what the code answers; beside a refusal the new packet.
+abbrev pub packet_read : Result Packet Fault → Packet
+packet_read (Ok p) = p
+packet_read (Err f) = new_packet
 
 -- What an answer shows of a reply.
-pub record Answers (a : Reply Target) (start : ℕ) (old : List ℕ) (r : TargetRead) (new : List ℕ) : Type 0 where
-  pub outcome : told r.outcome ≡ bare a
-  pub packet : r.packet ≡ packet_of start a
+pub record Answers (a : Reply Target) (start : ℕ) (old : List ℕ) (r : Result Packet Fault) (new : List ℕ) : Type 0 where
+  pub outcome : told r ≡ bare a
+  pub packet : packet_read r ≡ packet_of start a
   pub store : new ≡ store_of start a old
 
 -- What reading a text promises.
-abbrev pub FromText : List ℕ → (start : ℕ) → List ℕ → TargetRead → List ℕ → Type 0
+abbrev pub FromText : List ℕ → (start : ℕ) → List ℕ → Result Packet Fault → List ℕ → Type 0
 FromText s start old r new = Answers (reply_to (length old) start s) start old r new

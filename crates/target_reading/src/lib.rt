@@ -4,76 +4,44 @@
 ghost use Rattle.std.specs.Prelude.{◌≡◌, ◌-◌, ◌≤◌, length, take, drop};
 ghost use Rattle.placing.specs.Put.{Put};
 ghost use Rattle.percent.specs.Step.{kind_of};
-ghost use Rattle.target_reading.specs.FromText.{Beside, packet_with, FromText};
+ghost use Rattle.target_reading.specs.FromText.{packet_with, FromText};
 ghost use Rattle.target_reading.specs.Placing.{Tallies, bytes_of, Readable, Placeable, Places, Fills, Reads};
 
 use packet::limits::{MAX_OPTIONS, MAX_STORE};
 use packet::{Home, OptionRecord, Packet};
-use percent::{Kind, Step, byte_at};
-use refusal::Refusal;
+use percent::{Kind, byte_at};
+use refusal::{Fault, Refusal};
 use tables::option_number::{URI_PATH, URI_QUERY};
-use uri_text::{Tallied, judge_text, part_end};
+use uri_text::{Tally, judge_text, part_end};
 
-// What reading a text says of it.
-#[derive(Clone, Copy)]
-pub enum Verdict {
-    Passes,
-    Refused(Refusal),
-    // The part that would become the record at an index, counted from 0, has a value that no such option has.
-    BadOption(usize),
-}
-
-// What reading a text answers: what it says of the text, and the packet; beside a refusal stands the new packet.
-#[derive(Clone, Copy)]
-pub struct TargetRead {
-    pub outcome: Verdict,
-    pub packet: Packet,
-}
-
-// Reads a text into a new packet. Its values are put into the edit store, end to end from a start on.
-pub fn read_target(text: &[u8], edits: &mut [u8], start: u32) -> TargetRead
+// Reads a text into a new packet. Its values are put into the edit store, end to end from a start on. A part whose value no such
+// option has is named by the index, from 0, of the record that it would become.
+pub fn read_target(text: &[u8], edits: &mut [u8], start: u32) -> Result<Packet, Fault>
     ensures { FromText text.now start edits.old result edits.new }
 {
     if MAX_STORE < edits.len() {
-        return refused(Verdict::Refused(Refusal::TooLong));
+        return Err(Fault::Refused(Refusal::TooLong));
     }
-    match judge_text(text) {
-        Tallied::BadText => refused(Verdict::Refused(Refusal::BadText)),
-        Tallied::BadOption(index) => refused(Verdict::BadOption(index)),
-        Tallied::Values { count, bytes } => put_target(text, edits, start, count, bytes),
-    }
-}
-
-// A refusal, beside which stands the new packet.
-fn refused(outcome: Verdict) -> TargetRead
-    ensures { Beside outcome result }
-{
-    TargetRead {
-        outcome,
-        packet: Packet::new(),
-    }
+    let tally = judge_text(text)?;
+    put_target(text, edits, start, tally)
 }
 
 // Puts what a text says that was judged good, if there is room for it.
-fn put_target(text: &[u8], edits: &mut [u8], start: u32, count: usize, bytes: usize) -> TargetRead
-    requires { Tallies text.now edits.old count bytes }
+fn put_target(text: &[u8], edits: &mut [u8], start: u32, tally: Tally) -> Result<Packet, Fault>
+    requires { Tallies text.now edits.old tally.count tally.bytes }
     ensures { FromText text.now start edits.old result edits.new }
 {
     let at = start as usize;
-    if MAX_OPTIONS < count {
-        return refused(Verdict::Refused(Refusal::TooManyOptions));
+    if MAX_OPTIONS < tally.count {
+        return Err(Fault::Refused(Refusal::TooManyOptions));
     }
     if edits.len() < at {
-        return refused(Verdict::Refused(Refusal::NoRoom));
+        return Err(Fault::Refused(Refusal::NoRoom));
     }
-    if edits.len() - at < bytes {
-        return refused(Verdict::Refused(Refusal::NoRoom));
+    if edits.len() - at < tally.bytes {
+        return Err(Fault::Refused(Refusal::NoRoom));
     }
-    let filled = put_both(text, edits, at);
-    TargetRead {
-        outcome: Verdict::Passes,
-        packet: packet_with(filled),
-    }
+    Ok(packet_with(put_both(text, edits, at)))
 }
 
 // Records as they are made: the first `count` of these, and the place after their values.
@@ -171,7 +139,7 @@ fn put_parts(
             start: at as u32,
             len: (next - at) as u32,
         };
-        count = count + 1;
+        count += 1;
         at = next;
         if end == text.len() {
             return Filled { options, count, at };
@@ -189,17 +157,13 @@ fn put_part(kind: Kind, part: &[u8], edits: &mut [u8], at: usize) -> usize
     let mut i = 0;
     loop {
         match byte_at(kind, part, i) {
-            Step::End => {
-                return next;
+            Ok(Some(coded)) => {
+                edits[next] = coded.byte;
+                next += 1;
+                i = coded.next;
             }
-            Step::Bad => {
-                return next;
-            }
-            Step::Byte(b, after) => {
-                edits[next] = b;
-                next = next + 1;
-                i = after;
-            }
+            Ok(None) => return next,
+            Err(_) => return next,
         }
     }
 }

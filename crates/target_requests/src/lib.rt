@@ -3,89 +3,61 @@
 
 mod told;
 
-use packet::Packet;
-use packet_words::EDITS;
-use raw_words::raw_at;
-use rooms::fill;
+use output::Page;
+use raw_words::read_raw;
+use rooms::{fill, write_told};
 use target_reading::read_target;
 use target_writing::write_target;
-use telling::Told;
-use words::{Named, bytes_at, finished, low32, name_at, number_at, part};
+use words::Line;
 
-const NAMES: [u8; 25] = *b"target-write;target-read;";
+#[derive(Clone, Copy)]
+pub enum Request {
+    Write,
+    Read,
+}
 
-const WRITE: usize = 0;
-
-// Which of these requests a line is.
-pub fn named(line: &[u8]) -> Named {
-    name_at(line, 0, &NAMES)
+// Which of these requests a name is.
+pub fn named(name: &[u8]) -> Option<Request> {
+    match name {
+        b"target-write" => Some(Request::Write),
+        b"target-read" => Some(Request::Read),
+        _ => None,
+    }
 }
 
 // Answers a request. A packet's bytes or a text go to the store, and what is written to as much of the room as is named.
 pub fn answer(
-    name: Named,
-    line: &[u8],
+    request: Request,
+    line: &mut Line,
     store: &mut [u8],
     room: &mut [u8],
-    out: &mut [u8],
-    place: usize,
-) -> usize {
-    let lent = number_at(line, name.next, b' ', 71000);
-    let size = lent.value as usize;
-    if room.len() < size {
-        return told::put_none(out, place);
+    page: &mut Page,
+) -> Option<()> {
+    let room = line.room(room)?;
+    match request {
+        Request::Write => write(line, store, room, page),
+        Request::Read => read(line, store, room, page),
     }
-    if name.index == WRITE {
-        return write(line, lent.next, store, &mut room[0..size], out, place);
-    }
-    read(line, lent.next, store, &mut room[0..size], out, place)
 }
 
 // target-write ROOM RAW
-fn write(
-    line: &[u8],
-    at: usize,
-    store: &mut [u8],
-    room: &mut [u8],
-    out: &mut [u8],
-    place: usize,
-) -> usize {
-    let raw = raw_at(line, at, store);
-    let packet = raw.packet;
-    let ends = raw.ends;
-    if !finished(line, raw.next) {
-        return told::put_none(out, place);
-    }
-    write_in(
-        packet,
-        part(store, 0, ends.datagram),
-        part(store, EDITS, ends.edits),
-        room,
-    )
-    .put(out, place, store, room)
-}
-
-fn write_in<'a>(packet: Packet, datagram: &'a [u8], edits: &'a [u8], room: &mut [u8]) -> Told {
+fn write(line: &mut Line, store: &mut [u8], room: &mut [u8], page: &mut Page) -> Option<()> {
+    let raw = read_raw(line, store)?;
+    line.finished()?;
     fill(room);
-    let written = write_target(packet, datagram, edits, room);
-    rooms::told(written, room)
+    let held = raw.held();
+    let written = write_target(held.packet, held.stores, room);
+    write_told(page, written, room);
+    Some(())
 }
 
 // target-read ROOM START HEX
-fn read(
-    line: &[u8],
-    at: usize,
-    store: &mut [u8],
-    room: &mut [u8],
-    out: &mut [u8],
-    place: usize,
-) -> usize {
-    let start = number_at(line, at, b' ', 4294967295);
-    let text = bytes_at(line, start.next, b' ', store, 0);
-    if !finished(line, text.next) {
-        return told::put_none(out, place);
-    }
+fn read(line: &mut Line, store: &mut [u8], room: &mut [u8], page: &mut Page) -> Option<()> {
+    let start: u32 = line.number(b' ')?;
+    let text = line.stored(store)?;
+    line.finished()?;
     fill(room);
-    let read = read_target(part(store, 0, text.end), room, low32(start.value));
-    told::put_read(out, place, read, room, start.value as usize)
+    let read = read_target(text, room, start);
+    told::write_read(page, read, room, start as usize);
+    Some(())
 }

@@ -4,18 +4,18 @@ use mathlib.Core.Path.{◌≡◌, refl, sym, ap, ◌∙◌}
 use mathlib.Core.Bool.{true, false}
 use mathlib.Core.List.{List, [], ◌∷◌, ◌++◌, map}
 use native.Mathlib.Omega.{arith}
-use lib.Dec.{eqb, ltb}
+use lib.Dec.{ltb}
 use lib.ListN.{length, take, drop, get_or, length-take, length-drop, length-append}
 use borrow.Author.Tests.{eq-eqb, ne_eqb, ltb-false}
-use Rattle.ground.specs.Choice.{either}
 use Rattle.ground.proofs.Choice.{on_le, on_eq, by_eq, neither}
 use Rattle.rfc.specs.Uri.{Kind, segment, query, separator}
 use Rattle.rfc.specs.Percent.{code}
-use Rattle.rfc.specs.Message.{Opt}
 use Rattle.rfc.specs.Target.{values, behind, path_text}
-use Rattle.refusal.specs.declared.Written.{Written}
-use Rattle.refusal.specs.declared.Written.TheVariants.{Length, Refused}
-use Rattle.refusal.specs.declared.Refusal.TheVariants.{TooLong, BadRecord, NoRoom}
+use Rattle.std.specs.Prelude.{Result, Ok, Err}
+use Rattle.refusal.specs.declared.Refusal.{Refusal}
+use Rattle.refusal.specs.declared.Refusal.TheVariants.{TooLong, NoRoom}
+use Rattle.refusal.specs.Answer.{refused}
+use Rattle.refusal.specs.Number.{number_of}
 use Rattle.refusal.proofs.Fitted.{no_room}
 use Rattle.placing.specs.Put.{Puts}
 use Rattle.placing.proofs.Puts.{puts_fits}
@@ -27,7 +27,7 @@ use Rattle.packet.specs.declared.OptionRecord.{OptionRecord}
 use Rattle.packet.specs.declared.Home.{Home}
 use Rattle.packet.specs.declared.Home.TheVariants.{Datagram, Edits}
 use Rattle.packet.proofs.Records.{left, none_left}
-use Rattle.judging.specs.Judge.{lengths_of, is_too_long, bad_packet}
+use Rattle.judging.specs.Judge.{lengths_of, is_too_long, bad_packet, judging}
 use Rattle.percent.specs.Step.{others}
 use Rattle.percent.proofs.Coding.{code_length, others_small}
 use Rattle.target_writing.specs.ToText.{options_in, text_in, writable, ToText, Fit, Fits, path_length}
@@ -146,25 +146,25 @@ text_size s p =
 
 -- What each answer shows.
 module _ (s : Stores) (p : Packet) (old : List ℕ) where
-  pub no_room_for : (path rest : ℕ) → path + rest ≡ length (text_in s p) → length old < path + rest → Fits s p old (Refused NoRoom) old
+  pub no_room_for : (path rest : ℕ) → path + rest ≡ length (text_in s p) → length old < path + rest → Fits s p old (Err NoRoom) old
   no_room_for path rest e h =
       let f = no_room old (text_in s p) (omega arith) in
       record { answer = f.0; output = f.1 }
 
-  pub room_for : (r : ℕ) (new : List ℕ) → Puts old 0 (path_text (values 11 (options_in s p)) ++ behind query 0x3F (values 15 (options_in s p))) r new → length (text_in s p) ≤ length old → Fits s p old (Length r) new
+  pub room_for : (r : ℕ) (new : List ℕ) → Puts old 0 (path_text (values 11 (options_in s p)) ++ behind query 0x3F (values 15 (options_in s p))) r new → length (text_in s p) ≤ length old → Fits s p old (Ok r) new
   unfolding text_in
   room_for r new put h =
       let f = puts_fits put h in
       record { answer = f.0; output = f.1 }
 
-  pub too_long : is_too_long (lengths_of s) ≡ true → ToText s p old (Refused TooLong) old
+  pub too_long : is_too_long (lengths_of s) ≡ true → ToText s p old (Err TooLong) old
   unfolding writable
   too_long e = rw e (record { answer = refl; output = refl })
 
-  pub bad_record : is_too_long (lengths_of s) ≡ false → bad_packet (lengths_of s) p ≡ true → ToText s p old (Refused BadRecord) old
-  unfolding writable
-  bad_record e b = rw (e, b) (record { answer = refl; output = refl })
+  pub bad_record : (k : Refusal) → is_too_long (lengths_of s) ≡ false → bad_packet (lengths_of s) p ≡ true → refused (number_of k) ≡ judging (lengths_of s) p → ToText s p old (Err k) old
+  unfolding writable judging
+  bad_record k e b j = rw (e, b) (record { answer = rw b at j; output = refl })
 
-  pub good_record : (r : Written) (new : List ℕ) → is_too_long (lengths_of s) ≡ false → bad_packet (lengths_of s) p ≡ false → Fits s p old r new → ToText s p old r new
+  pub good_record : (r : Result ℕ Refusal) (new : List ℕ) → is_too_long (lengths_of s) ≡ false → bad_packet (lengths_of s) p ≡ false → Fits s p old r new → ToText s p old r new
   unfolding writable
   good_record r new e b f = rw (e, b) f

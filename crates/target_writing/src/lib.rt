@@ -5,84 +5,63 @@ ghost use Rattle.std.specs.Prelude.{◌≡◌, ◌∷◌, length};
 ghost use Rattle.rfc.specs.Uri.{segment, separator};
 ghost use Rattle.rfc.specs.Percent.{code};
 ghost use Rattle.rfc.specs.Target.{values, behind, path_text};
-ghost use Rattle.packet.specs.Packet.{stores};
+ghost use Rattle.packet.specs.Packet.{held};
 ghost use Rattle.placing.specs.Put.{Puts};
 ghost use Rattle.percent.specs.Step.{kind_of};
 ghost use Rattle.target_writing.specs.ToText.{Fit, options_in, path_length, Fits, ToText};
 
-use judging::{Judged, Lengths};
-use packet::Packet;
+use judging::Lengths;
+use packet::{Packet, Stores};
 use percent::{Kind, coded_count, put_value};
 use placing::put_byte;
-use refusal::{Refusal, Written};
+use refusal::Refusal;
 use tables::option_number::{URI_PATH, URI_QUERY};
 
 // Writes the text of a packet's path and query.
 pub fn write_target<'a>(
     packet: Packet,
-    datagram: &'a [u8],
-    edits: &'a [u8],
+    stores: Stores<'a>,
     out: &mut [u8],
-) -> Written
-    ensures { ToText (stores datagram.now edits.now) packet out.old result out.new }
+) -> Result<usize, Refusal>
+    ensures { ToText (held stores.entry) packet out.old result out.new }
 {
-    let lengths = Lengths::of(datagram, edits);
+    let lengths = Lengths::of(stores);
     if lengths.too_long() {
-        return Written::Refused(Refusal::TooLong);
+        return Err(Refusal::TooLong);
     }
-    match judging::judge(packet, lengths) {
-        Judged::BadRecord => Written::Refused(Refusal::BadRecord),
-        Judged::OptionsSize(_) => put_target(packet, datagram, edits, out),
-    }
+    judging::judge(packet, lengths)?;
+    put_target(packet, stores, out)
 }
 
 // Writes the text of a packet that was judged good, if there is room for it.
-fn put_target<'a>(packet: Packet, datagram: &'a [u8], edits: &'a [u8], out: &mut [u8]) -> Written
-    requires { Fit (stores datagram.now edits.now) packet }
-    ensures { Fits (stores datagram.now edits.now) packet out.old result out.new }
+fn put_target<'a>(packet: Packet, stores: Stores<'a>, out: &mut [u8]) -> Result<usize, Refusal>
+    requires { Fit (held stores) packet }
+    ensures { Fits (held stores.entry) packet out.old result out.new }
 {
-    let path = text_length(packet, Kind::Segment, URI_PATH, datagram, edits);
-    let query = text_length(packet, Kind::Query, URI_QUERY, datagram, edits);
+    let path = text_length(packet, Kind::Segment, URI_PATH, stores);
+    let query = text_length(packet, Kind::Query, URI_QUERY, stores);
     if out.len() < path_length(path) + query {
-        return Written::Refused(Refusal::NoRoom);
+        return Err(Refusal::NoRoom);
     }
-    let next = put_path(out, path, packet, datagram, edits);
-    Written::Length(put_values(
-        out,
-        next,
-        packet,
-        Kind::Query,
-        URI_QUERY,
-        b'?',
-        datagram,
-        edits,
-    ))
+    let next = put_path(out, path, packet, stores);
+    Ok(put_values(out, next, packet, Kind::Query, URI_QUERY, b'?', stores))
 }
 
 // How many characters the values of a number take, each behind one character more.
-fn text_length<'a>(
-    packet: Packet,
-    kind: Kind,
-    number: u16,
-    datagram: &'a [u8],
-    edits: &'a [u8],
-) -> usize
-    requires { Fit (stores datagram.now edits.now) packet }
-    ensures { result ≡ length (behind (kind_of kind) (separator (kind_of kind)) (values number (options_in (stores datagram.now edits.now) packet))) }
+fn text_length<'a>(packet: Packet, kind: Kind, number: u16, stores: Stores<'a>) -> usize
+    requires { Fit (held stores) packet }
+    ensures { result ≡ length (behind (kind_of kind) (separator (kind_of kind)) (values number (options_in (held stores.entry) packet))) }
 {
     let count = packet.count;
     let options = packet.options;
     let mut total = 0;
-    let mut i = 0;
-    while i < count {
+    for i in 0..count {
         let option = options[i];
-        if option.number == number {
-            let value = option.value(datagram, edits);
-            total = total + 1 + value.len() + 2 * coded_count(kind, value);
-            i = i + 1;
-        } else {
-            i = i + 1;
+        if option.number != number {
+            continue;
         }
+        let value = option.value(stores);
+        total = total + 1 + value.len() + 2 * coded_count(kind, value);
     }
     total
 }
@@ -98,29 +77,14 @@ fn path_length(segments: usize) -> usize
 }
 
 // Puts a path whose segments take so many characters.
-fn put_path<'a>(
-    out: &mut [u8],
-    segments: usize,
-    packet: Packet,
-    datagram: &'a [u8],
-    edits: &'a [u8],
-) -> usize
-    requires { Fit (stores datagram.now edits.now) packet × (segments ≡ length (behind segment (separator segment) (values 11 (options_in (stores datagram.now edits.now) packet)))) }
-    ensures { Puts out.old 0 (path_text (values 11 (options_in (stores datagram.now edits.now) packet))) result out.new }
+fn put_path<'a>(out: &mut [u8], segments: usize, packet: Packet, stores: Stores<'a>) -> usize
+    requires { Fit (held stores) packet × (segments ≡ length (behind segment (separator segment) (values 11 (options_in (held stores) packet)))) }
+    ensures { Puts out.old 0 (path_text (values 11 (options_in (held stores.entry) packet))) result out.new }
 {
     if segments == 0 {
         return put_byte(out, 0, b'/');
     }
-    put_values(
-        out,
-        0,
-        packet,
-        Kind::Segment,
-        URI_PATH,
-        b'/',
-        datagram,
-        edits,
-    )
+    put_values(out, 0, packet, Kind::Segment, URI_PATH, b'/', stores)
 }
 
 // The character before a part that isn't the first.
@@ -141,27 +105,23 @@ fn put_values<'a>(
     kind: Kind,
     number: u16,
     first: u8,
-    datagram: &'a [u8],
-    edits: &'a [u8],
+    stores: Stores<'a>,
 ) -> usize
-    requires { Fit (stores datagram.now edits.now) packet }
-    ensures { Puts out.old at (behind (kind_of kind) first (values number (options_in (stores datagram.now edits.now) packet))) result out.new }
+    requires { Fit (held stores) packet }
+    ensures { Puts out.old at (behind (kind_of kind) first (values number (options_in (held stores.entry) packet))) result out.new }
 {
     let count = packet.count;
     let options = packet.options;
     let mut mark = first;
     let mut next = at;
-    let mut i = 0;
-    while i < count {
+    for i in 0..count {
         let option = options[i];
-        if option.number == number {
-            let value = option.value(datagram, edits);
-            next = put_part(out, next, mark, kind, value);
-            mark = separator(kind);
-            i = i + 1;
-        } else {
-            i = i + 1;
+        if option.number != number {
+            continue;
         }
+        let value = option.value(stores);
+        next = put_part(out, next, mark, kind, value);
+        mark = separator(kind);
     }
     next
 }

@@ -3,91 +3,49 @@
 // stream is read twice, so it may be of any length; from a pipe it is first copied to /tmp, and the room there bounds it.
 #![tactic(auto)]
 
-use output::Console;
-use passes::{Work, form_of, pass};
-use placing::put_bytes;
-use refusal::Outcome;
-use reports::{flushed, put_number, put_refused};
+use passes::{Judge, Show, form_of};
+use reports::{Failure, Page};
 use reread::Input;
 use stream::Form;
-use walks::Walk;
-use words::part;
+use walks::{Walk, pass};
 
 fn main(rt: HostRuntime) {
     let mut window = [0u8; 65536];
     let mut out = [0u8; 65536];
-    thaw_over(&rt, &mut window, &mut out);
-}
-
-fn thaw_over(rt: &HostRuntime, window: &mut [u8; 65536], out: &mut [u8; 65536]) {
-    let console = Console::of(rt);
-    if let Some(input) = reread::standard(rt, console) {
-        thaw(console, &input, window, out);
-    }
+    let mut page = Page::new(rt.stdout(), &mut out);
+    reports::end(&rt, thaw(&rt, &mut window, &mut page));
 }
 
 // Judges the stream, and shows it where it is one.
-fn thaw(console: Console, input: &Input, window: &mut [u8], out: &mut [u8]) {
-    let front = reread::front(console, input, window);
-    if front.failed {
-        return;
+fn thaw(rt: &HostRuntime, window: &mut [u8], page: &mut Page) -> Result<(), Failure> {
+    let input = Input::standard(rt)?;
+    let form = form_of(input.front(window)?);
+    let judged = pass(rt, &input, &mut Judge(form), window, page)?;
+    if judged.rejected.is_some() {
+        return report(judged, page);
     }
-    let form = form_of(part(window, 0, front.count));
-    let judged = pass(console, input, form, Work::Judge, window, out);
-    let outcome = judged.outcome;
-    match outcome {
-        Outcome::Refused(_) => report(console, judged, out),
-        Outcome::Done => show(console, input, form, judged, window, out),
-    }
-}
-
-// Shows a stream that was judged.
-fn show(
-    console: Console,
-    input: &Input,
-    form: Form,
-    judged: Walk,
-    window: &mut [u8],
-    out: &mut [u8],
-) {
-    if judged.failed {
-        return;
-    }
-    let place = put_form(form, judged.messages, out);
-    if !flushed(console, out, place) {
-        return;
-    }
-    let shown = pass(console, input, form, Work::Show, window, out);
-    report(console, shown, out);
+    put_form(form, judged.messages, page);
+    page.finish()?;
+    let shown = pass(rt, &input, &mut Show(form), window, page)?;
+    report(shown, page)
 }
 
 // form old
-fn put_form(form: Form, messages: u64, out: &mut [u8]) -> usize {
-    if messages == 0 {
-        return put_bytes(out, 0, b"form old and new\n");
-    }
-    match form {
-        Form::Old => put_bytes(out, 0, b"form old\n"),
-        Form::New => put_bytes(out, 0, b"form new\n"),
-    }
+fn put_form(form: Form, messages: u64, page: &mut Page) {
+    let name = match form {
+        _ if messages == 0 => "old and new",
+        Form::Old => "old",
+        Form::New => "new",
+    };
+    writeln!(page, "form {name}");
 }
 
-// The verdict, as the last line; nothing where reading or writing failed, of which standard error has a line.
-fn report(console: Console, walk: Walk, out: &mut [u8]) {
-    if walk.failed {
-        return;
+// The verdict, as the last line.
+fn report(walk: Walk, page: &mut Page) -> Result<(), Failure> {
+    let messages = walk.messages;
+    match walk.rejected {
+        Some(rejection) => writeln!(page, "{rejection}"),
+        None => writeln!(page, "thawed, messages {messages}"),
     }
-    let place = put_verdict(walk, out);
-    flushed(console, out, place);
-}
-
-fn put_verdict(walk: Walk, out: &mut [u8]) -> usize {
-    let outcome = walk.outcome;
-    match outcome {
-        Outcome::Refused(why) => put_refused(out, 0, why, b", message ", walk.refused),
-        Outcome::Done => {
-            let place = put_number(out, 0, b"thawed, messages ", walk.messages);
-            put_bytes(out, place, b"\n")
-        }
-    }
+    page.finish()
 }

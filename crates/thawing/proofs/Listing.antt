@@ -13,7 +13,8 @@ use Rattle.placing.proofs.Puts.{Putting, putting_start, putting_turn, putting_en
 use Rattle.stream.specs.declared.Form.{Form}
 use Rattle.stream.specs.Stream.{Frozen, message_of, datagrams_of}
 use Rattle.stream.specs.declared.Step.{Step}
-use Rattle.stream.specs.declared.Step.TheVariants.{Message}
+use Rattle.std.specs.Prelude.{Result, Ok}
+use Rattle.refusal.specs.declared.Refusal.{Refusal}
 use Rattle.stream.specs.Messages.{message_at}
 use Rattle.stream.specs.Answers.{step_read}
 use Rattle.stream.proofs.Sound.{Message as Stands, message_sound}
@@ -112,7 +113,7 @@ module _ (form : Form) (s : List ℕ) where
         pub onwards : at < next
         pub walk : ListWalk l oldList oldOut (set (set (set list place (at + 1)) (place + 1) to) (place + 2) len) newOut next (place + 3) (to + len)
 
-      pub list_next : (r : Step) (len next : ℕ) (newOut : List ℕ) → r ≡ Message len next → NextMessage form s at out to r newOut → Turned len next newOut
+      pub list_next : (r : Result Step Refusal) (len next : ℕ) (newOut : List ℕ) → r ≡ Ok (record { len = len; next = next }) → NextMessage form s at out to r newOut → Turned len next newOut
       list_next r len next newOut e n =
           let t = taken form s at w.rest first out to list_room len next newOut (rw e at n) in
           record {
@@ -122,5 +123,5 @@ module _ (form : Form) (s : List ℕ) where
           }
 
       -- The step isn't refused.
-      pub list_some {ℓ} : {C : Type ℓ} (r : Step) (newOut : List ℕ) (k : ℕ) → NextMessage form s at out to r newOut → step_read r ≡ refused k → C
+      pub list_some {ℓ} : {C : Type ℓ} (r : Result Step Refusal) (newOut : List ℕ) (k : ℕ) → NextMessage form s at out to r newOut → step_read r ≡ refused k → C
       list_some r newOut k n e = never_refused form s at w.rest first out to list_room r newOut k n e

@@ -17,7 +17,8 @@ use Rattle.placing.proofs.Puts.{puts_placed, whole_puts}
 use Rattle.refusal.specs.declared.Refusal.TheVariants.{NoRoom}
 use Rattle.stream.specs.declared.Form.{Form}
 use Rattle.stream.specs.declared.Step.{Step}
-use Rattle.stream.specs.declared.Step.TheVariants.{Message, Refused}
+use Rattle.std.specs.Prelude.{Result, Ok, Err}
+use Rattle.refusal.specs.declared.Refusal.{Refusal}
 use Rattle.stream.specs.Stream.{Frozen, full, message_of}
 use Rattle.stream.specs.Messages.{Body, body_at, Found, sized_body, message_at}
 use Rattle.stream.specs.Answers.{Extent, step_read}
@@ -44,7 +45,7 @@ module _ (form : Form) (s : List ℕ) (at : ℕ) where
       (λ e. tt)
 
   -- No message.
-  pub next_refused : (old : List ℕ) (to : ℕ) (r : Step) (k : ℕ) → message_at form s at ≡ refused k → step_read r ≡ refused k → NextMessage form s at old to r old
+  pub next_refused : (old : List ℕ) (to : ℕ) (r : Result Step Refusal) (k : ℕ) → message_at form s at ≡ refused k → step_read r ≡ refused k → NextMessage form s at old to r old
   next_refused old to r k e h = record { answer = h ∙ rw e refl; output = rw e refl }
 
   module _ (len next : ℕ) (o : Whole form s at len next) where
@@ -65,22 +66,22 @@ module _ (form : Form) (s : List ℕ) (at : ℕ) where
         ap (λ (n : ℕ). record { len = n; next = o.found.next }) o.length_is ∙ ap (λ (n : ℕ). record { len = len; next = n }) o.next_is
 
     module _ (old : List ℕ) (to : ℕ) where
-      told : (r : Step) (new : List ℕ) → step_read r ≡ room_from (length old) to o.found.message.datagram (extent_of o.found)
+      told : (r : Result Step Refusal) (new : List ℕ) → step_read r ≡ room_from (length old) to o.found.message.datagram (extent_of o.found)
           → new ≡ after (room_from (length old) to o.found.message.datagram (extent_of o.found)) to o.found.message.datagram old → NextMessage form s at old to r new
       told r new e p = record { answer = rw o.is e; output = rw o.is p }
 
       -- No room for the datagram at the place.
-      pub next_no_room : length old < to + len → NextMessage form s at old to (Refused NoRoom) old
+      pub next_no_room : length old < to + len → NextMessage form s at old to (Err NoRoom) old
       next_no_room h =
           let d : List ℕ = o.found.message.datagram in
           let n = no_place old d to (extent_of o.found) (omega (arith, o.length_is)) in
-          told (Refused NoRoom) old n.0 n.1
+          told (Err NoRoom) old n.0 n.1
 
       -- The datagram at the place.
-      pub next_copied : (r : ℕ) (new : List ℕ) → to + len ≤ length old → Puts old to (body_bytes (body_at form s (length s) (full form) (at + 19))) r new → NextMessage form s at old to (Message len next) new
+      pub next_copied : (r : ℕ) (new : List ℕ) → to + len ≤ length old → Puts old to (body_bytes (body_at form s (length s) (full form) (at + 19))) r new → NextMessage form s at old to (Ok (record { len = len; next = next })) new
       next_copied r new h p =
           let n = puts_placed (extent_of o.found) (rw whole_bytes at p) (omega (arith, o.length_is)) in
-          told (Message len next) new (ap given (sym whole_extent) ∙ n.0) n.1
+          told (Ok (record { len = len; next = next })) new (ap given (sym whole_extent) ∙ n.0) n.1
 
 same_extent : (a b : Extent) → ◌≡◌ {A = Answer Extent} (given a) (given b) → a ≡ b
 same_extent a b e = cc
@@ -90,7 +91,7 @@ module _ (form : Form) (s : List ℕ) (at : ℕ) (rest : List Frozen) (f : First
   took : next_in form s at (length old) to ≡ given (record { len = length f.message.datagram; next = at + length (message_of form f.message) })
   took = rw (f.found, le-ltb (length old) (to + length f.message.datagram) room) refl
 
-  pub never_refused {ℓ} : {C : Type ℓ} (r : Step) (new : List ℕ) (k : ℕ) → NextMessage form s at old to r new → step_read r ≡ refused k → C
+  pub never_refused {ℓ} : {C : Type ℓ} (r : Result Step Refusal) (new : List ℕ) (k : ℕ) → NextMessage form s at old to r new → step_read r ≡ refused k → C
   never_refused r new k n e = not_refused (sym took ∙ (sym n.answer ∙ e))
 
   -- What was taken.
@@ -100,7 +101,7 @@ module _ (form : Form) (s : List ℕ) (at : ℕ) (rest : List Frozen) (f : First
     pub put : Puts old to f.message.datagram (to + len) new
     pub out : new ≡ sets old to f.message.datagram
 
-  pub taken : (len next : ℕ) (new : List ℕ) → NextMessage form s at old to (Message len next) new → Took len next new
+  pub taken : (len next : ℕ) (new : List ℕ) → NextMessage form s at old to (Ok (record { len = len; next = next })) new → Took len next new
   taken len next new n =
       let d : List ℕ = f.message.datagram in
       let k : ◌≡◌ {A = Extent} (record { len = len; next = next }) (record { len = length d; next = at + length (message_of form f.message) }) = same_extent _ _ (n.answer ∙ took) in

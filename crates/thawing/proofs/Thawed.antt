@@ -8,8 +8,8 @@ use lib.Seq.{sets}
 use borrow.Author.Tests.{lt-ltb, le-ltb}
 use Rattle.refusal.specs.Answer.{Answer, given, refused, onward, written, after}
 use Rattle.refusal.specs.declared.Refusal.TheVariants.{NoRoom}
-use Rattle.refusal.specs.declared.Written.{Written}
-use Rattle.refusal.specs.declared.Written.TheVariants.{Length, Refused}
+use Rattle.std.specs.Prelude.{Result, Ok, Err}
+use Rattle.refusal.specs.declared.Refusal.{Refusal}
 use Rattle.refusal.proofs.Answers.{not_refused, same_given, same_refused, onward_given}
 use Rattle.stream.specs.declared.Form.{Form}
 use Rattle.stream.specs.Stream.{Frozen, datagrams_of}
@@ -65,31 +65,31 @@ module _ (form : Form) (s oldList oldOut : List ℕ) where
   unfolding thawing
   thawing_on l e = rw e refl
 
-  told : (x : Answer ℕ) (r : Written) (newList newOut : List ℕ) → thawing form (length oldList) (length oldOut) s ≡ x → written r ≡ x
+  told : (x : Answer ℕ) (r : Result ℕ Refusal) (newList newOut : List ℕ) → thawing form (length oldList) (length oldOut) s ≡ x → written r ≡ x
       → newList ≡ after x 0 (entries form 0 0 (messages_in (thawed form s))) oldList → newOut ≡ after x 0 (datagrams_of (messages_in (thawed form s))) oldOut
       → Thaws form s oldList oldOut r newList newOut
   told x r newList newOut t a b c = record { answer = rw t a; list = rw t b; output = rw t c }
 
-  pub thaw_refused : (r : Written) (k : ℕ) → thawed_strictly form s ≡ refused k → written r ≡ refused k → Thaws form s oldList oldOut r oldList oldOut
+  pub thaw_refused : (r : Result ℕ Refusal) (k : ℕ) → thawed_strictly form s ≡ refused k → written r ≡ refused k → Thaws form s oldList oldOut r oldList oldOut
   unfolding thawing
   thaw_refused r k e h = told (refused k) r oldList oldOut (rw e refl) h refl refl
 
   module _ (count bytes chunks : ℕ) (c : Counted form form s count bytes chunks) where
-    pub thaw_no_places : length oldList < 3 * count → Thaws form s oldList oldOut (Refused NoRoom) oldList oldOut
+    pub thaw_no_places : length oldList < 3 * count → Thaws form s oldList oldOut (Err NoRoom) oldList oldOut
     unfolding listed
     thaw_no_places h =
-        told (refused 12) (Refused NoRoom) oldList oldOut
+        told (refused 12) (Err NoRoom) oldList oldOut
         (thawing_on c.messages c.are ∙ rw (lt-ltb (length oldList) (3 * length c.messages) (omega (arith, c.count_is))) refl) refl refl refl
 
-    pub thaw_no_room : 3 * count ≤ length oldList → length oldOut < bytes → Thaws form s oldList oldOut (Refused NoRoom) oldList oldOut
+    pub thaw_no_room : 3 * count ≤ length oldList → length oldOut < bytes → Thaws form s oldList oldOut (Err NoRoom) oldList oldOut
     unfolding listed
     thaw_no_room p h =
-        told (refused 12) (Refused NoRoom) oldList oldOut
+        told (refused 12) (Err NoRoom) oldList oldOut
         (thawing_on c.messages c.are ∙ rw (le-ltb (length oldList) (3 * length c.messages) (omega (arith, c.count_is)), lt-ltb (length oldOut) (length (datagrams_of c.messages)) (omega (arith, c.bytes_is))) refl) refl refl refl
 
     pub thaw_done : (newList newOut : List ℕ) → 3 * count ≤ length oldList → bytes ≤ length oldOut → newList ≡ sets oldList 0 (entries form 0 0 (messages_in (thawed form s))) → newOut ≡ sets oldOut 0 (datagrams_of (messages_in (thawed form s)))
-        → Thaws form s oldList oldOut (Length count) newList newOut
+        → Thaws form s oldList oldOut (Ok count) newList newOut
     unfolding listed
     thaw_done newList newOut p h a b =
-        told (given count) (Length count) newList newOut
+        told (given count) (Ok count) newList newOut
         (thawing_on c.messages c.are ∙ rw (le-ltb (length oldList) (3 * length c.messages) (omega (arith, c.count_is)), le-ltb (length oldOut) (length (datagrams_of c.messages)) (omega (arith, c.bytes_is))) (ap given c.count_is)) refl a b

@@ -1,6 +1,7 @@
 -- One message of a stream, taken out: its datagram copied to a place of an output, or judged by strict reading.
-use Rattle.std.specs.Prelude.{ℕ, ◌≡◌, true, List, [], length}
+use Rattle.std.specs.Prelude.{ℕ, ◌≡◌, true, List, [], length, Result}
 use Rattle.refusal.specs.Answer.{Answer, given, refused, onward, room_from, after}
+use Rattle.refusal.specs.declared.Refusal.{Refusal}
 use Rattle.reading.specs.Reading.{reading}
 use Rattle.stream.specs.declared.Form.{Form}
 use Rattle.stream.specs.declared.Step.{Step}
@@ -24,7 +25,7 @@ abbrev pub next_in : Form → List ℕ → ℕ → ℕ → ℕ → Answer Extent
 next_in form s at room to = onward (message_at form s at) (λ m. room_from room to m.message.datagram (extent_of m))
 
 -- What taking the message at a position promises: its length and the position after it; its datagram at the place.
-pub record NextMessage (form : Form) (s : List ℕ) (at : ℕ) (old : List ℕ) (to : ℕ) (r : Step) (new : List ℕ) : Type 0 where
+pub record NextMessage (form : Form) (s : List ℕ) (at : ℕ) (old : List ℕ) (to : ℕ) (r : Result Step Refusal) (new : List ℕ) : Type 0 where
   pub answer : step_read r ≡ next_in form s at (length old) to
   pub output : new ≡ after (next_in form s at (length old) to) to (found_bytes (message_at form s at)) old
 

@@ -1,16 +1,15 @@
 -- Reading a whole stream: 19 over all of it, then the first bad datagram's own refusal, then NoRoom (12); and what list and output
 -- hold afterwards.
-use Rattle.std.specs.Prelude.{ℕ, ◌+◌, ◌*◌, ◌≤◌, ◌≡◌, true, List, [], ◌∷◌, length, ltb}
+use Rattle.std.specs.Prelude.{ℕ, ◌+◌, ◌*◌, ◌≤◌, ◌≡◌, true, List, [], ◌∷◌, length, ltb, Result, Ok, Err}
 use Rattle.ground.specs.Choice.{pick}
 use Rattle.refusal.specs.Answer.{Answer, given, refused, onward, written, after}
 use Rattle.refusal.specs.Number.{number_of}
-use Rattle.refusal.specs.declared.Written.{Written}
+use Rattle.refusal.specs.declared.Refusal.{Refusal}
 use Rattle.reading.specs.Reading.{reading}
 use Rattle.stream.specs.declared.Form.{Form}
 use Rattle.stream.specs.Stream.{Frozen, chunk_count, message_of, datagrams_of}
 use Rattle.stream.specs.Messages.{messages_from, thawed}
 use Rattle.thawing.specs.declared.Strict.{Strict}
-use Rattle.thawing.specs.declared.Strict.TheVariants.{Messages, Refused}
 
 -- Whether strict reading accepts each datagram of a list; the first refusal where it doesn't.
 abbrev pub all_strict : List Frozen → Answer (Unit {0})
@@ -40,16 +39,16 @@ abbrev pub counts_of : Form → Answer (List Frozen) → Answer Counts
 counts_of other (given l) = given (record { count = length l; bytes = length (datagrams_of l); chunks = chunks_in other l })
 counts_of other (refused k) = refused k
 
-abbrev pub strictly_in : Strict → Answer Counts
-strictly_in (Messages count bytes chunks) = given (record { count = count; bytes = bytes; chunks = chunks })
-strictly_in (Refused e) = refused (number_of e)
+abbrev pub strictly_in : Result Strict Refusal → Answer Counts
+strictly_in (Ok s) = given (record { count = s.count; bytes = s.bytes; chunks = s.chunks })
+strictly_in (Err e) = refused (number_of e)
 
 -- The counts from a position on.
 abbrev pub strict_from : Form → Form → List ℕ → ℕ → Answer Counts
 strict_from form other s at = counts_of other (onward (messages_from form s at) strict)
 
 -- What judging a stream with its datagrams promises.
-abbrev pub Strictly : Form → Form → List ℕ → Strict → Type 0
+abbrev pub Strictly : Form → Form → List ℕ → Result Strict Refusal → Type 0
 Strictly form other s r = strictly_in r ≡ strict_from form other s 0
 
 -- What the list tells of messages that start at a position, with datagrams from a place of the output on: for each where its peer
@@ -75,7 +74,7 @@ messages_in (given l) = l
 messages_in (refused k) = []
 
 -- What thawing promises of its answer, of the list and of the output.
-pub record Thaws (form : Form) (s oldList oldOut : List ℕ) (r : Written) (newList newOut : List ℕ) : Type 0 where
+pub record Thaws (form : Form) (s oldList oldOut : List ℕ) (r : Result ℕ Refusal) (newList newOut : List ℕ) : Type 0 where
   pub answer : written r ≡ thawing form (length oldList) (length oldOut) s
   pub list : newList ≡ after (thawing form (length oldList) (length oldOut) s) 0 (entries form 0 0 (messages_in (thawed form s))) oldList
   pub output : newOut ≡ after (thawing form (length oldList) (length oldOut) s) 0 (datagrams_of (messages_in (thawed form s))) oldOut

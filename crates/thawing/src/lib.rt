@@ -17,50 +17,37 @@ ghost use Rattle.thawing.specs.Thawing.{strict, Strictly, Listing, entries, mess
 use chunk_judging::judge_chunks;
 use cursor::judge;
 use placing::put_bytes;
-use refusal::{Outcome, Refusal, Written};
-use stream::{
-    Form, Judged, Step, chunk_count, chunk_length, head_of, judge_from, message_at, padding_of,
-};
+use refusal::Refusal;
+use stream::{Form, Step, chunk_count, chunk_length, head_of, judge_from, message_at, padding_of};
 
 // Reads a whole stream. For each message the list gets where its peer starts in the stream, where its datagram starts in the output
 // and how long it is; the datagrams stand in the output end to end. The answer is how many messages there are.
-pub fn thaw(form: Form, stream: &[u8], list: &mut [usize], out: &mut [u8]) -> Written
+pub fn thaw(form: Form, stream: &[u8], list: &mut [usize], out: &mut [u8]) -> Result<usize, Refusal>
     ensures { Thaws form stream.now list.old out.old result list.new out.new }
 {
-    match judge_strictly(form, form, stream) {
-        Strict::Refused(e) => Written::Refused(e),
-        Strict::Messages {
-            count,
-            bytes,
-            chunks: _,
-        } => {
-            if list.len() / 3 < count {
-                return Written::Refused(Refusal::NoRoom);
-            }
-            if out.len() < bytes {
-                return Written::Refused(Refusal::NoRoom);
-            }
-            list_messages(form, stream, list, out);
-            Written::Length(count)
-        }
+    let strict = judge_strictly(form, form, stream)?;
+    if list.len() / 3 < strict.count {
+        return Err(Refusal::NoRoom);
     }
+    if out.len() < strict.bytes {
+        return Err(Refusal::NoRoom);
+    }
+    list_messages(form, stream, list, out);
+    Ok(strict.count)
 }
 
 // What a stream of strict datagrams holds: how many messages, how many bytes their datagrams have together, and how many chunks
 // these take in a form.
 #[derive(Clone, Copy)]
-pub enum Strict {
-    Messages {
-        count: usize,
-        bytes: usize,
-        chunks: usize,
-    },
-    Refused(Refusal),
+pub struct Strict {
+    pub count: usize,
+    pub bytes: usize,
+    pub chunks: usize,
 }
 
 // Judges a whole stream and each of its datagrams, and counts chunks as another form has them. The first bad datagram decides only
 // where the rest of the stream is one.
-pub fn judge_strictly(form: Form, other: Form, stream: &[u8]) -> Strict
+pub fn judge_strictly(form: Form, other: Form, stream: &[u8]) -> Result<Strict, Refusal>
     ensures { Strictly form other stream.now result }
 {
     let mut count = 0;
@@ -69,22 +56,20 @@ pub fn judge_strictly(form: Form, other: Form, stream: &[u8]) -> Strict
     let mut at = 0;
     while at < stream.len() {
         match strict_at(form, stream, at) {
-            Step::Refused(e) => {
-                return Strict::Refused(refused_from(form, stream, at, e));
-            }
-            Step::Message { len, next } => {
-                count = count + 1;
-                bytes = bytes + len;
-                chunks = chunks + chunk_count(other, len);
-                at = next;
+            Err(e) => return Err(refused_from(form, stream, at, e)),
+            Ok(message) => {
+                count += 1;
+                bytes += message.len;
+                chunks += chunk_count(other, message.len);
+                at = message.next;
             }
         }
     }
-    Strict::Messages {
+    Ok(Strict {
         count,
         bytes,
         chunks,
-    }
+    })
 }
 
 // Why a stream is refused whose message at a position is, be it for the message or for its datagram.
@@ -93,51 +78,42 @@ fn refused_from(form: Form, stream: &[u8], at: usize, why: Refusal) -> Refusal
     ensures { onward (messages_from form stream.now at) strict ≡ refused (number_of result) }
 {
     match judge_from(form, stream, at) {
-        Judged::Refused(e) => e,
-        Judged::Messages { count: _, bytes: _ } => why,
+        Err(e) => e,
+        Ok(_) => why,
     }
 }
 
 // The message at a position, where its datagram is strict.
-pub fn strict_at(form: Form, stream: &[u8], at: usize) -> Step
+pub fn strict_at(form: Form, stream: &[u8], at: usize) -> Result<Step, Refusal>
     ensures { step_read result ≡ strict_at form stream.now at }
 {
-    match message_at(form, stream, at) {
-        Step::Refused(e) => Step::Refused(e),
-        Step::Message { len, next } => {
-            if chunk_length(form, len) < len {
-                return strict_apart(form, stream, at + 19, len, next);
-            }
-            let start = at + 19 + head_of(form);
-            let e = start + len;
-            let datagram = &stream[start..e];
-            strict_before(datagram, next)
-        }
+    let message = message_at(form, stream, at)?;
+    if chunk_length(form, message.len) < message.len {
+        return strict_apart(form, stream, at + 19, message);
     }
+    let start = at + 19 + head_of(form);
+    let end = start + message.len;
+    strict_before(&stream[start..end], message.next)
 }
 
 // A datagram in one piece, judged where it stands.
-fn strict_before(datagram: &[u8], next: usize) -> Step
+fn strict_before(datagram: &[u8], next: usize) -> Result<Step, Refusal>
     ensures { step_read result ≡ strict_before datagram.now next }
 {
-    match judge(true, datagram) {
-        Outcome::Refused(e) => Step::Refused(e),
-        Outcome::Done => Step::Message {
-            len: datagram.len(),
-            next,
-        },
-    }
+    judge(true, datagram)?;
+    Ok(Step {
+        len: datagram.len(),
+        next,
+    })
 }
 
 // A datagram of several chunks, which lie apart, judged where they lie.
-fn strict_apart(form: Form, stream: &[u8], from: usize, len: usize, next: usize) -> Step
-    requires { (len ≡ length (body_bytes (body_at form stream.now (length stream.now) (full form) from))) × (len ≤ full_size) }
-    ensures { step_read result ≡ strict_before (body_bytes (body_at form stream.now (length stream.now) (full form) from)) next }
+fn strict_apart(form: Form, stream: &[u8], from: usize, message: Step) -> Result<Step, Refusal>
+    requires { (message.len ≡ length (body_bytes (body_at form stream.now (length stream.now) (full form) from))) × (message.len ≤ full_size) }
+    ensures { step_read result ≡ strict_before (body_bytes (body_at form stream.now (length stream.now) (full form) from)) message.next }
 {
-    match judge_chunks(form, stream, from, len) {
-        Outcome::Refused(why) => Step::Refused(why),
-        Outcome::Done => Step::Message { len, next },
-    }
+    judge_chunks(form, stream, from, message.len)?;
+    Ok(message)
 }
 
 // Lists the messages of a stream that was judged, and copies their datagrams.
@@ -150,40 +126,38 @@ fn list_messages(form: Form, stream: &[u8], list: &mut [usize], out: &mut [u8]) 
     let mut place = 0;
     let mut to = 0;
     while at < stream.len() {
-        match next_message(form, stream, at, out, to) {
-            Step::Refused(_) => {
-                return place;
-            }
-            Step::Message { len, next } => {
-                list[place] = at + 1;
-                list[place + 1] = to;
-                list[place + 2] = len;
-                place = place + 3;
-                to = to + len;
-                at = next;
-            }
-        }
+        let Ok(message) = next_message(form, stream, at, out, to) else {
+            return place;
+        };
+        list[place] = at + 1;
+        list[place + 1] = to;
+        list[place + 2] = message.len;
+        place += 3;
+        to += message.len;
+        at = message.next;
     }
     place
 }
 
 // The message at a position: its datagram is copied to a place of the output.
-pub fn next_message(form: Form, stream: &[u8], at: usize, out: &mut [u8], to: usize) -> Step
+pub fn next_message(
+    form: Form,
+    stream: &[u8],
+    at: usize,
+    out: &mut [u8],
+    to: usize,
+) -> Result<Step, Refusal>
     ensures { NextMessage form stream.now at out.old to result out.new }
 {
-    match message_at(form, stream, at) {
-        Step::Refused(e) => Step::Refused(e),
-        Step::Message { len, next } => {
-            if out.len() < to {
-                return Step::Refused(Refusal::NoRoom);
-            }
-            if out.len() - to < len {
-                return Step::Refused(Refusal::NoRoom);
-            }
-            copy_chunks(form, stream, at + 19, len, out, to);
-            Step::Message { len, next }
-        }
+    let message = message_at(form, stream, at)?;
+    if out.len() < to {
+        return Err(Refusal::NoRoom);
     }
+    if out.len() - to < message.len {
+        return Err(Refusal::NoRoom);
+    }
+    copy_chunks(form, stream, at + 19, message.len, out, to);
+    Ok(message)
 }
 
 // Copies the bytes of the chunks at a position.

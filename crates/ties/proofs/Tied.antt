@@ -5,6 +5,8 @@ use mathlib.Core.Path.{◌≡◌}
 use mathlib.Core.Bool.{true, false}
 use mathlib.Core.List.{List}
 use lib.ListN.{length, get_or}
+use denote.Builtin.{u8, u16, u32, u64}
+use Rattle.std.specs.Prelude.{Result}
 use Rattle.rfc.specs.Uint.{uint}
 use Rattle.header.specs.Header.{number_of_type, setting_of, with_code}
 use Rattle.option_value.specs.Text.{read_text, write_text, text_of}
@@ -12,12 +14,12 @@ use Rattle.code_text.specs.CodeText.{code_in, code_of}
 use Rattle.measuring.specs.declared.Limit.TheVariants.{Default, Given, Unlimited}
 use Rattle.rfc.specs.Block.{block_bytes}
 use Rattle.refusal.specs.Answer.{Answer, written, fitted, after, beside}
-use Rattle.refusal.specs.declared.Written.{Written}
-use Rattle.option_value.specs.Uint.{ReadsUint, uint_of, read_u8, read_u16, read_u32, read_u64}
+use Rattle.refusal.specs.declared.Refusal.{Refusal}
+use Rattle.option_value.specs.Uint.{ReadsUint, uint_of, read_by, read_value}
 use Rattle.block_value.specs.Answers.{meant, built}
 use Rattle.block_value.specs.Plain.{ReadsPlain}
 use Rattle.block_value.specs.Strict.{strict_new, strict_writing, ReadsStrict}
-use Rattle.packet.specs.Packet.{none, stores, range_of, records_of, of_number}
+use Rattle.packet.specs.Packet.{none, stores, held, range_of, records_of, of_number}
 use Rattle.judging.specs.Judge.{lengths_of}
 use Rattle.reading.specs.Reading.{FromBytes}
 use Rattle.cursor.specs.Cursor.{Starts, StepsTo, Judges as JudgesDatagram}
@@ -113,39 +115,37 @@ use Rattle.tracing.proofs.timed_at.Reads as TimedAt
 use Rattle.tracing.proofs.arrival_at.Reads as ArrivalAt
 use Rattle.replaying.proofs.replay.Reads as ReplayTrace
 use Rattle.header.proofs.Header.set_code.Reads as SetCode
-use Rattle.option_value.proofs.OptionValueU8.try_from.Reads as FromU8
-use Rattle.option_value.proofs.OptionValueU16.try_from.Reads as FromU16
-use Rattle.option_value.proofs.OptionValueU32.try_from.Reads as FromU32
-use Rattle.option_value.proofs.OptionValueU64.try_from.Reads as FromU64
+use Rattle.option_value.proofs.OptionValue.try_from.Reads as FromValue
+use Rattle.option_value.specs.contracts.U8Width.TheImpl.{ghosts as width_8}
+use Rattle.option_value.specs.contracts.U16Width.TheImpl.{ghosts as width_16}
+use Rattle.option_value.specs.contracts.U32Width.TheImpl.{ghosts as width_32}
+use Rattle.option_value.specs.contracts.U64Width.TheImpl.{ghosts as width_64}
 use Rattle.option_value.proofs.option_to_text.Reads as ToText
-use Rattle.option_value.proofs.OptionValueU8.into_bytes.Reads as IntoU8
-use Rattle.option_value.proofs.OptionValueU16.into_bytes.Reads as IntoU16
-use Rattle.option_value.proofs.OptionValueU32.into_bytes.Reads as IntoU32
-use Rattle.option_value.proofs.OptionValueU64.into_bytes.Reads as IntoU64
+use Rattle.option_value.proofs.OptionValue.into_bytes.Reads as IntoValue
 use Rattle.option_value.proofs.option_from_uint.Reads as PutUint
 use Rattle.option_value.proofs.option_from_text.Reads as PutText
 use Rattle.code_text.proofs.code_in.Reads as CodeIn
 
 -- Getters.
-part_of : (k : _) (a : _) (r : _) (x : _) → PartOf.Post k a r x → HandsBack r.now r.ref_ptr a.1.0.ref_ptr a.1.1.0.ref_ptr (stores a.1.0.now a.1.1.0.now) a.0
+part_of : (k : _) (a : _) (r : _) (x : _) → PartOf.Post k a r x → HandsBack r.now r.ref_ptr a.1.0.datagram.ref_ptr a.1.0.edits.ref_ptr (held a.1.0) a.0
 part_of k a r x h = record { bytes_are = h.0; place_is = h.1 }
 
-value_of : (k : _) (a : _) (r : _) (x : _) → ValueOf.Post k a r x → HandsBack r.now r.ref_ptr a.1.0.ref_ptr a.1.1.0.ref_ptr (stores a.1.0.now a.1.1.0.now) (range_of a.0)
+value_of : (k : _) (a : _) (r : _) (x : _) → ValueOf.Post k a r x → HandsBack r.now r.ref_ptr a.1.0.datagram.ref_ptr a.1.0.edits.ref_ptr (held a.1.0) (range_of a.0)
 value_of k a r x h = record { bytes_are = h.0; place_is = h.1 }
 
-get_token : (k : _) (a : _) (r : _) (x : _) → GetToken.Post k a r x → HandsBack r.now r.ref_ptr a.1.0.ref_ptr a.1.1.0.ref_ptr (stores a.1.0.now a.1.1.0.now) a.0.token
+get_token : (k : _) (a : _) (r : _) (x : _) → GetToken.Post k a r x → HandsBack r.now r.ref_ptr a.1.0.datagram.ref_ptr a.1.0.edits.ref_ptr (held a.1.0) a.0.token
 get_token k a r x h = record { bytes_are = h.0; place_is = h.1 }
 
-get_payload : (k : _) (a : _) (r : _) (x : _) → GetPayload.Post k a r x → HandsBack r.now r.ref_ptr a.1.0.ref_ptr a.1.1.0.ref_ptr (stores a.1.0.now a.1.1.0.now) a.0.payload
+get_payload : (k : _) (a : _) (r : _) (x : _) → GetPayload.Post k a r x → HandsBack r.now r.ref_ptr a.1.0.datagram.ref_ptr a.1.0.edits.ref_ptr (held a.1.0) a.0.payload
 get_payload k a r x h = record { bytes_are = h.0; place_is = h.1 }
 
-value_at : (k : _) (a : _) (r : _) (x : _) → ValueAt.Post k a r x → HandsBack r.now r.ref_ptr a.1.0.ref_ptr a.1.1.0.ref_ptr (stores a.1.0.now a.1.1.0.now) (range_of (get_or (records_of a.0) a.1.1.1.0 none))
+value_at : (k : _) (a : _) (r : _) (x : _) → ValueAt.Post k a r x → HandsBack r.now r.ref_ptr a.1.0.datagram.ref_ptr a.1.0.edits.ref_ptr (held a.1.0) (range_of (get_or (records_of a.0) a.1.1.0 none))
 value_at k a r x h = record { bytes_are = h.0; place_is = h.1 }
 
-get_option : (k : _) (a : _) (r : _) (x : _) → GetOption.Post k a r x → HandsBack r.now r.ref_ptr a.1.0.ref_ptr a.1.1.0.ref_ptr (stores a.1.0.now a.1.1.0.now) (range_of (get_or (of_number a.1.1.1.0 (records_of a.0)) a.1.1.1.1.0 none))
+get_option : (k : _) (a : _) (r : _) (x : _) → GetOption.Post k a r x → HandsBack r.now r.ref_ptr a.1.0.datagram.ref_ptr a.1.0.edits.ref_ptr (held a.1.0) (range_of (get_or (of_number a.1.1.0 (records_of a.0)) a.1.1.1.0 none))
 get_option k a r x h = record { bytes_are = h.0; place_is = h.1 }
 
-get_first_option : (k : _) (a : _) (r : _) (x : _) → GetFirst.Post k a r x → HandsBack r.now r.ref_ptr a.1.0.ref_ptr a.1.1.0.ref_ptr (stores a.1.0.now a.1.1.0.now) (range_of (get_or (of_number a.1.1.1.0 (records_of a.0)) 0 none))
+get_first_option : (k : _) (a : _) (r : _) (x : _) → GetFirst.Post k a r x → HandsBack r.now r.ref_ptr a.1.0.datagram.ref_ptr a.1.0.edits.ref_ptr (held a.1.0) (range_of (get_or (of_number a.1.1.0 (records_of a.0)) 0 none))
 get_first_option k a r x h = record { bytes_are = h.0; place_is = h.1 }
 
 -- Reading.
@@ -166,22 +166,22 @@ judge_datagram : (k : _) (a : _) (r : _) (x : _) → JudgeDatagram.Post k a r x 
 judge_datagram k a r x h = h
 
 -- Writing, at each limit, plain and strict.
-to_bytes : (k : _) (a : _) (r : _) (x : _) → ToPlain.Post k a r x → ToBytes false Default a.0 (stores a.1.0.now a.1.1.0.now) a.1.1.1.0.now r x.1.1.1.0.now
+to_bytes : (k : _) (a : _) (r : _) (x : _) → ToPlain.Post k a r x → ToBytes false Default a.0 (held a.1.0) a.1.1.0.now r x.1.1.0.now
 to_bytes k a r x h = h
 
-to_bytes_with_limit : (k : _) (a : _) (r : _) (x : _) → ToPlainLimit.Post k a r x → ToBytes false (Given a.1.0) a.0 (stores a.1.1.0.now a.1.1.1.0.now) a.1.1.1.1.0.now r x.1.1.1.1.0.now
+to_bytes_with_limit : (k : _) (a : _) (r : _) (x : _) → ToPlainLimit.Post k a r x → ToBytes false (Given a.1.0) a.0 (held a.1.1.0) a.1.1.1.0.now r x.1.1.1.0.now
 to_bytes_with_limit k a r x h = h
 
-to_bytes_unlimited : (k : _) (a : _) (r : _) (x : _) → ToPlainUnlimited.Post k a r x → ToBytes false Unlimited a.0 (stores a.1.0.now a.1.1.0.now) a.1.1.1.0.now r x.1.1.1.0.now
+to_bytes_unlimited : (k : _) (a : _) (r : _) (x : _) → ToPlainUnlimited.Post k a r x → ToBytes false Unlimited a.0 (held a.1.0) a.1.1.0.now r x.1.1.0.now
 to_bytes_unlimited k a r x h = h
 
-to_bytes_strict : (k : _) (a : _) (r : _) (x : _) → ToStrict.Post k a r x → ToBytes true Default a.0 (stores a.1.0.now a.1.1.0.now) a.1.1.1.0.now r x.1.1.1.0.now
+to_bytes_strict : (k : _) (a : _) (r : _) (x : _) → ToStrict.Post k a r x → ToBytes true Default a.0 (held a.1.0) a.1.1.0.now r x.1.1.0.now
 to_bytes_strict k a r x h = h
 
-to_bytes_with_limit_strict : (k : _) (a : _) (r : _) (x : _) → ToStrictLimit.Post k a r x → ToBytes true (Given a.1.0) a.0 (stores a.1.1.0.now a.1.1.1.0.now) a.1.1.1.1.0.now r x.1.1.1.1.0.now
+to_bytes_with_limit_strict : (k : _) (a : _) (r : _) (x : _) → ToStrictLimit.Post k a r x → ToBytes true (Given a.1.0) a.0 (held a.1.1.0) a.1.1.1.0.now r x.1.1.1.0.now
 to_bytes_with_limit_strict k a r x h = h
 
-to_bytes_unlimited_strict : (k : _) (a : _) (r : _) (x : _) → ToStrictUnlimited.Post k a r x → ToBytes true Unlimited a.0 (stores a.1.0.now a.1.1.0.now) a.1.1.1.0.now r x.1.1.1.0.now
+to_bytes_unlimited_strict : (k : _) (a : _) (r : _) (x : _) → ToStrictUnlimited.Post k a r x → ToBytes true Unlimited a.0 (held a.1.0) a.1.1.0.now r x.1.1.0.now
 to_bytes_unlimited_strict k a r x h = h
 
 -- Building, call by call.
@@ -195,13 +195,13 @@ build_payload : (k : _) (a : _) (r : _) (x : _) → BuildPayload.Post k a r x �
 build_payload k a r x h = h
 
 -- Edits.
-set_token : (k : _) (a : _) (r : _) (x : _) → SetToken.Post k a r x → Edits a.0 (token_set a.0 (record { home = a.1.0; start = a.1.1.0; len = a.1.1.1.0 })) r
+set_token : (k : _) (a : _) (r : _) (x : _) → SetToken.Post k a r x → Edits a.0 (token_set a.0 a.1.0) r
 set_token k a r x h = h
 
-set_payload : (k : _) (a : _) (r : _) (x : _) → SetPayload.Post k a r x → Edits a.0 (payload_set a.0 (record { home = a.1.0; start = a.1.1.0; len = a.1.1.1.0 })) r
+set_payload : (k : _) (a : _) (r : _) (x : _) → SetPayload.Post k a r x → Edits a.0 (payload_set a.0 a.1.0) r
 set_payload k a r x h = h
 
-add_option : (k : _) (a : _) (r : _) (x : _) → AddOption.Post k a r x → Edits a.0 (added a.0 a.1.0 (record { home = a.1.1.0; start = a.1.1.1.0; len = a.1.1.1.1.0 })) r
+add_option : (k : _) (a : _) (r : _) (x : _) → AddOption.Post k a r x → Edits a.0 (added a.0 a.1.0 a.1.1.0) r
 add_option k a r x h = h
 
 set_option : (k : _) (a : _) (r : _) (x : _) → SetOption.Post k a r x → Edits a.0 (homed a.1.1.0.now (option_set a.0 a.1.0)) r
@@ -221,20 +221,28 @@ set_observe_value : (k : _) (a : _) (r : _) (x : _) → SetObserve.Post k a r x 
 set_observe_value k a r x h = h
 
 -- The writers of uints and of text: an answer, and the output by it.
-abbrev Writes : Answer ℕ → List ℕ → List ℕ → Written → List ℕ → Type 0
+abbrev Writes : Answer ℕ → List ℕ → List ℕ → Result ℕ Refusal → List ℕ → Type 0
 Writes a bytes old r new = (written r ≡ a) × (new ≡ after a 0 bytes old)
 
-u8_into : (k : _) (a : _) (r : _) (x : _) → IntoU8.Post k a r x → Writes (fitted (length a.1.0.now) (uint 1 a.0.0)) (uint 1 a.0.0) a.1.0.now r x.1.0.now
-u8_into k a r x h = h
+value_into : (t : _) (l : _) (c : _) (g : _) (e : _) (f : _) (i : _) (k : _) (a : _) (r : _) (x : _) → IntoValue.Post t l c g e f i k a r x
+    → Writes (fitted (length a.1.0.now) (uint g.BYTES (g.number_of a.0.0))) (uint g.BYTES (g.number_of a.0.0)) a.1.0.now r x.1.0.now
+value_into t l c g e f i k a r x h = h
 
-u16_into : (k : _) (a : _) (r : _) (x : _) → IntoU16.Post k a r x → Writes (fitted (length a.1.0.now) (uint 2 a.0.0)) (uint 2 a.0.0) a.1.0.now r x.1.0.now
-u16_into k a r x h = h
+u8_into : (l : _) (c : _) (e : _) (f : _) (i : _) (k : _) (a : _) (r : _) (x : _) → IntoValue.Post u8 l c width_8 e f i k a r x
+    → Writes (fitted (length a.1.0.now) (uint 1 a.0.0)) (uint 1 a.0.0) a.1.0.now r x.1.0.now
+u8_into l c e f i k a r x h = value_into u8 l c width_8 e f i k a r x h
 
-u32_into : (k : _) (a : _) (r : _) (x : _) → IntoU32.Post k a r x → Writes (fitted (length a.1.0.now) (uint 4 a.0.0)) (uint 4 a.0.0) a.1.0.now r x.1.0.now
-u32_into k a r x h = h
+u16_into : (l : _) (c : _) (e : _) (f : _) (i : _) (k : _) (a : _) (r : _) (x : _) → IntoValue.Post u16 l c width_16 e f i k a r x
+    → Writes (fitted (length a.1.0.now) (uint 2 a.0.0)) (uint 2 a.0.0) a.1.0.now r x.1.0.now
+u16_into l c e f i k a r x h = value_into u16 l c width_16 e f i k a r x h
 
-u64_into : (k : _) (a : _) (r : _) (x : _) → IntoU64.Post k a r x → Writes (fitted (length a.1.0.now) (uint 8 a.0.0)) (uint 8 a.0.0) a.1.0.now r x.1.0.now
-u64_into k a r x h = h
+u32_into : (l : _) (c : _) (e : _) (f : _) (i : _) (k : _) (a : _) (r : _) (x : _) → IntoValue.Post u32 l c width_32 e f i k a r x
+    → Writes (fitted (length a.1.0.now) (uint 4 a.0.0)) (uint 4 a.0.0) a.1.0.now r x.1.0.now
+u32_into l c e f i k a r x h = value_into u32 l c width_32 e f i k a r x h
+
+u64_into : (l : _) (c : _) (e : _) (f : _) (i : _) (k : _) (a : _) (r : _) (x : _) → IntoValue.Post u64 l c width_64 e f i k a r x
+    → Writes (fitted (length a.1.0.now) (uint 8 a.0.0)) (uint 8 a.0.0) a.1.0.now r x.1.0.now
+u64_into l c e f i k a r x h = value_into u64 l c width_64 e f i k a r x h
 
 option_from_uint : (k : _) (a : _) (r : _) (x : _) → PutUint.Post k a r x → Writes (fitted (length a.1.0.now) (uint 8 a.0)) (uint 8 a.0) a.1.0.now r x.1.0.now
 option_from_uint k a r x h = h
@@ -246,7 +254,7 @@ option_from_text k a r x h = h
 option_to_text : (k : _) (a : _) (r : _) (x : _) → ToText.Post k a r x → text_of r ≡ read_text a.0.now
 option_to_text k a r x h = h
 
-set_code : (k : _) (a : _) (r : _) (x : _) → SetCode.Post k a r x → setting_of r ≡ beside a.0 (with_code a.0 a.1.0.now)
+set_code : (k : _) (a : _) (r : _) (x : _) → SetCode.Post k a r x → setting_of a.0 r ≡ beside a.0 (with_code a.0 a.1.0.now)
 set_code k a r x h = h
 
 code_in_lem : (k : _) (a : _) (r : _) (x : _) → CodeIn.Post k a r x → code_of r ≡ code_in a.0.now
@@ -256,22 +264,30 @@ code_in_lem k a r x h = h
 option_to_uint : (k : _) (a : _) (r : _) (x : _) → ToUint.Post k a r x → ReadsUint a.1.0 a.0.now (uint_of r)
 option_to_uint k a r x h = h
 
-u8_from : (k : _) (a : _) (r : _) (x : _) → FromU8.Post k a r x → ReadsUint 1 a.0.now (read_u8 r)
-u8_from k a r x h = h
+value_from : (t : _) (l : _) (c : _) (g : _) (e : _) (f : _) (i : _) (k : _) (a : _) (r : _) (x : _) → FromValue.Post t l c g e f i k a r x
+    → ReadsUint g.BYTES a.0.now (read_by g.number_of r)
+value_from t l c g e f i k a r x h = h
 
-u16_from : (k : _) (a : _) (r : _) (x : _) → FromU16.Post k a r x → ReadsUint 2 a.0.now (read_u16 r)
-u16_from k a r x h = h
+u8_from : (l : _) (c : _) (e : _) (f : _) (i : _) (k : _) (a : _) (r : _) (x : _) → FromValue.Post u8 l c width_8 e f i k a r x
+    → ReadsUint 1 a.0.now (read_value r)
+u8_from l c e f i k a r x h = value_from u8 l c width_8 e f i k a r x h
 
-u32_from : (k : _) (a : _) (r : _) (x : _) → FromU32.Post k a r x → ReadsUint 4 a.0.now (read_u32 r)
-u32_from k a r x h = h
+u16_from : (l : _) (c : _) (e : _) (f : _) (i : _) (k : _) (a : _) (r : _) (x : _) → FromValue.Post u16 l c width_16 e f i k a r x
+    → ReadsUint 2 a.0.now (read_value r)
+u16_from l c e f i k a r x h = value_from u16 l c width_16 e f i k a r x h
 
-u64_from : (k : _) (a : _) (r : _) (x : _) → FromU64.Post k a r x → ReadsUint 8 a.0.now (read_u64 r)
-u64_from k a r x h = h
+u32_from : (l : _) (c : _) (e : _) (f : _) (i : _) (k : _) (a : _) (r : _) (x : _) → FromValue.Post u32 l c width_32 e f i k a r x
+    → ReadsUint 4 a.0.now (read_value r)
+u32_from l c e f i k a r x h = value_from u32 l c width_32 e f i k a r x h
 
-get_content_format : (k : _) (a : _) (r : _) (x : _) → GetFormat.Post k a r x → GetsFormat (stores a.1.0.now a.1.1.0.now) a.0 r
+u64_from : (l : _) (c : _) (e : _) (f : _) (i : _) (k : _) (a : _) (r : _) (x : _) → FromValue.Post u64 l c width_64 e f i k a r x
+    → ReadsUint 8 a.0.now (read_value r)
+u64_from l c e f i k a r x h = value_from u64 l c width_64 e f i k a r x h
+
+get_content_format : (k : _) (a : _) (r : _) (x : _) → GetFormat.Post k a r x → GetsFormat (held a.1.0) a.0 r
 get_content_format k a r x h = h
 
-get_observe_value : (k : _) (a : _) (r : _) (x : _) → GetObserve.Post k a r x → GetsObserve (stores a.1.0.now a.1.1.0.now) a.0 r
+get_observe_value : (k : _) (a : _) (r : _) (x : _) → GetObserve.Post k a r x → GetsObserve (held a.1.0) a.0 r
 get_observe_value k a r x h = h
 
 block_from : (k : _) (a : _) (r : _) (x : _) → BlockFrom.Post k a r x → ReadsPlain a.0.now r
@@ -289,7 +305,7 @@ block_new_strict : (k : _) (a : _) (r : _) (x : _) → BlockNewStrict.Post k a r
 block_new_strict k a r x h = h
 
 -- The register check, frames and plans.
-check : (k : _) (a : _) (r : _) (x : _) → CheckRegister.Post k a r x → Checks (lengths_of (stores a.1.0.now a.1.1.0.now)) a.0 r
+check : (k : _) (a : _) (r : _) (x : _) → CheckRegister.Post k a r x → Checks (lengths_of (held a.1.0)) a.0 r
 check k a r x h = h
 
 to_frame : (k : _) (a : _) (r : _) (x : _) → FrameOut.Post k a r x → ToFrame a.0.now a.1.0.now r x.1.0.now
@@ -317,7 +333,7 @@ judge_strictly k a r x h = h
 thaw : (k : _) (a : _) (r : _) (x : _) → ThawStream.Post k a r x → Thaws a.0 a.1.0.now a.1.1.0.now a.1.1.1.0.now r x.1.1.0.now x.1.1.1.0.now
 thaw k a r x h = h
 
-freeze : (k : _) (a : _) (r : _) (x : _) → FreezePacket.Post k a r x → Freezes a.0 a.1.0 a.1.1.0 (stores a.1.1.1.0.now a.1.1.1.1.0.now) a.1.1.1.1.1.0.now a.1.1.1.1.1.1.0 r x.1.1.1.1.1.0.now
+freeze : (k : _) (a : _) (r : _) (x : _) → FreezePacket.Post k a r x → Freezes a.0 a.1.0 a.1.1.0 (held a.1.1.1.0) a.1.1.1.1.0.now a.1.1.1.1.1.0 r x.1.1.1.1.0.now
 freeze k a r x h = h
 
 -- Conversions of streams.
@@ -362,7 +378,7 @@ replay : (k : _) (a : _) (r : _) (x : _) → ReplayTrace.Post k a r x → Replay
 replay k a r x h = h
 
 -- Paths and queries as text.
-write_target : (k : _) (a : _) (r : _) (x : _) → WriteTarget.Post k a r x → WritesTarget (stores a.1.0.now a.1.1.0.now) a.0 a.1.1.1.0.now r x.1.1.1.0.now
+write_target : (k : _) (a : _) (r : _) (x : _) → WriteTarget.Post k a r x → WritesTarget (held a.1.0) a.0 a.1.1.0.now r x.1.1.0.now
 write_target k a r x h = h
 
 read_target : (k : _) (a : _) (r : _) (x : _) → ReadTarget.Post k a r x → FromText a.0.now a.1.1.0 a.1.0.now r x.1.0.now

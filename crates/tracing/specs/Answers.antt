@@ -1,12 +1,12 @@
 -- The answers of the walk over a trace, in the words of the definitions: numbers for what the definitions give as lists.
-use Rattle.std.specs.Prelude.{ℕ, ◌<◌, ◌≡◌, List, length}
+use Rattle.std.specs.Prelude.{ℕ, ◌<◌, ◌≡◌, List, length, Result, Ok, Err}
 use Rattle.ground.specs.Part.{part}
 use Rattle.rfc.specs.Uint.{number}
 use Rattle.refusal.specs.Answer.{Answer, given, refused, onward}
 use Rattle.refusal.specs.Number.{number_of}
+use Rattle.refusal.specs.declared.Refusal.{Refusal}
 use Rattle.tracing.specs.TimedMessages.{TimedFound}
 use Rattle.tracing.specs.declared.TimedStep.{TimedStep}
-use Rattle.tracing.specs.declared.TimedStep.TheVariants.{Message, Refused}
 
 -- The time of a message, the length of its datagram, and the position after it.
 pub record TimedExtent : Type 0 where
@@ -14,9 +14,9 @@ pub record TimedExtent : Type 0 where
   pub len : ℕ
   pub next : ℕ
 
-abbrev pub timed_read : TimedStep → Answer TimedExtent
-timed_read (Message time len next) = given (record { time = time; len = len; next = next })
-timed_read (Refused e) = refused (number_of e)
+abbrev pub timed_read : Result TimedStep Refusal → Answer TimedExtent
+timed_read (Ok s) = given (record { time = s.time; len = s.len; next = s.next })
+timed_read (Err e) = refused (number_of e)
 
 abbrev pub timed_extent : Answer TimedFound → Answer TimedExtent
 timed_extent (given m) =

@@ -1,7 +1,9 @@
 -- The messages of a trace as the duplicate rule asks for them: type and message id are those in the header of the datagram.
-use Rattle.std.specs.Prelude.{ℕ, List, map, replicate}
+use Rattle.std.specs.Prelude.{ℕ, List, map, replicate, Result, Ok, Err}
 use Rattle.rfc.specs.Duplicates.{Arrival}
-use Rattle.refusal.specs.Answer.{Answer, given, onward, outcome, Beside, beside}
+use Rattle.refusal.specs.Answer.{Answer, given, refused, onward, Beside, beside}
+use Rattle.refusal.specs.Number.{number_of}
+use Rattle.refusal.specs.declared.Refusal.{Refusal}
 use Rattle.header.specs.Header.{new_raw, raw_in, header_of, number_of_type}
 use Rattle.header.specs.declared.HeaderRaw.{HeaderRaw}
 use Rattle.stream.specs.declared.Form.{Form}
@@ -38,13 +40,15 @@ arrival_at form s at = onward (timed_at form s at) (λ m. given (record { arriva
 abbrev pub no_arrival : Coming
 no_arrival = record { arrival = record { time = 0; type = 0; peer = replicate 18 0; id = 0 }; next = 0 }
 
--- The answer of reading one: how it ended, and the message beside it.
-abbrev pub arrived_in : Arrived → Beside Coming
-arrived_in a =
+-- The message that was read, and the position after it.
+abbrev pub coming_of : Arrived → Coming
+coming_of a =
     record {
-      answer = outcome a.outcome;
-      value = record {
-        arrival = record { time = a.time; type = number_of_type a.kind; peer = a.peer; id = a.id };
-        next = a.next;
-      };
+      arrival = record { time = a.time; type = number_of_type a.kind; peer = a.peer; id = a.id };
+      next = a.next;
     }
+
+-- The answer of reading one: how it ended, and the message beside it.
+abbrev pub arrived_in : Result Arrived Refusal → Beside Coming
+arrived_in (Ok a) = record { answer = given tt; value = coming_of a }
+arrived_in (Err e) = record { answer = refused (number_of e); value = no_arrival }

@@ -6,16 +6,16 @@ use mathlib.Core.List.{List, []}
 use native.Mathlib.Omega.{arith}
 use lib.ListN.{length, take}
 use borrow.Author.Tests.{le-ltb}
+use Rattle.std.specs.Prelude.{Result, Ok}
 use Rattle.ground.specs.Part.{Bytes}
 use Rattle.ground.proofs.Choice.{on_lt}
 use Rattle.rfc.specs.Message.{Message, WellFormed, layout, header_layout}
 use Rattle.rfc.specs.Frame.{frame}
 use Rattle.refusal.specs.Answer.{Answer, given, onward, written, fitted, after}
-use Rattle.refusal.specs.declared.Written.{Written}
-use Rattle.refusal.specs.declared.Written.TheVariants.{Length}
 use Rattle.refusal.proofs.Answers.{on_given, onward_given, not_refused, same_given}
 use Rattle.refusal.proofs.Distinct.{one_written}
 use Rattle.refusal.proofs.Fitted.{fitted_output}
+use Rattle.refusal.specs.declared.Refusal.{Refusal}
 use Rattle.header.specs.Header.{number_of_type}
 use Rattle.header.specs.declared.MessageType.{MessageType}
 use Rattle.header.proofs.Raw.{type_small}
@@ -33,16 +33,16 @@ use Rattle.guarantees.specs.Wrote.{Wrote}
 use Rattle.transfer_guarantees.specs.Frames.{IsFrameOf, renamed, OneMessage, Out, Back, OutThenBack, BackThenOut, FrameOutputKept, OneConversion}
 use Rattle.reading.proofs.Taken.{Taken, taken}
 use Rattle.guarantees.proofs.RoundTrips.{front}
-use Rattle.guarantees.proofs.Refusals.{output_kept}
+use Rattle.guarantees.proofs.Refusals.{output_kept, same_ok}
 
 -- What a conversion wrote, and that it wrote something.
-module _ (a : Answer (List ℕ)) (old : List ℕ) (r : Written) (new : List ℕ) (promise : Converts a old r new) where
+module _ (a : Answer (List ℕ)) (old : List ℕ) (r : Result ℕ Refusal) (new : List ℕ) (promise : Converts a old r new) where
   pub wrote : (bytes : List ℕ) → a ≡ given bytes → length bytes ≤ length old → Wrote bytes old r new
   wrote bytes is fits =
       let fit : fitted (length old) bytes ≡ given (length bytes) = rw (le-ltb (length old) (length bytes) fits) in
       let all : onward a (fitted (length old)) ≡ given (length bytes) = ap (λ (x : Answer (List ℕ)). onward x (fitted (length old))) is ∙ fit in
       record {
-        answer = one_written r (Length (length bytes)) (promise.answer ∙ all);
+        answer = one_written r (Ok (length bytes)) (promise.answer ∙ all);
         output = promise.output ∙ (ap (λ (x : Answer (List ℕ)). after (onward x (fitted (length old))) 0 (bytes_of x) old) is ∙ fitted_output old bytes (length bytes) fit);
       }
 
@@ -54,20 +54,17 @@ module _ (a : Answer (List ℕ)) (old : List ℕ) (r : Written) (new : List ℕ)
   fits_in : (bytes : List ℕ) (n : ℕ) → fitted (length old) bytes ≡ given n → length bytes ≤ length old
   fits_in bytes n = on_lt (λ (x : Answer ℕ). x ≡ given n → length bytes ≤ length old) (length old) (length bytes) (λ h e. not_refused (sym e)) (λ h e. h)
 
-  pub converted : (n : ℕ) → r ≡ Length n → Converted n
+  pub converted : (n : ℕ) → r ≡ Ok n → Converted n
   converted n e =
       let o = onward_given a (fitted (length old)) n (sym promise.answer ∙ ap written e) in
       record { bytes = o.0; is = o.1; fits = fits_in o.0 n o.2 }
 
   -- What stands in the output.
-  pub stood : (n : ℕ) → r ≡ Length n → (bytes : List ℕ) → a ≡ given bytes → length bytes ≤ length old → take n new ≡ bytes
+  pub stood : (n : ℕ) → r ≡ Ok n → (bytes : List ℕ) → a ≡ given bytes → length bytes ≤ length old → take n new ≡ bytes
   stood n e bytes is fits =
       let w = wrote bytes is fits in
-      let same : n ≡ length bytes = length_is (sym e ∙ w.answer) in
+      let same : n ≡ length bytes = same_ok (sym e ∙ w.answer) in
       ap (λ (i : ℕ). take i new) same ∙ front bytes old new w.output
-    where
-      length_is : {x y : ℕ} → Length x ≡ Length y → x ≡ y
-      length_is q = cc
 
 -- Out: the frame of a message whose layout was read, and the other way round.
 module _ (m : Message) (w : WellFormed m) (short : length (layout m) ≤ 70000) where

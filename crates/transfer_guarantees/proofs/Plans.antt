@@ -9,16 +9,15 @@ use lib.Dec.{leb, ltb}
 use lib.Pow.{pow-add}
 use lib.ListN.{length, get_or, take, length-map}
 use borrow.Author.Tests.{lt-ltb, le-ltb, le-leb, lt-leb, eq-eqb, ne_eqb}
+use Rattle.std.specs.Prelude.{Result, Ok, Err}
 use Rattle.ground.specs.Choice.{both}
 use Rattle.ground.proofs.Choice.{by_lt, by_eq}
 use Rattle.rfc.specs.Block.{Block, size, block_number, block_of}
 use Rattle.refusal.specs.Answer.{given, outcome, written}
 use Rattle.refusal.specs.declared.Refusal.TheVariants.{BadPlan}
-use Rattle.refusal.specs.declared.Outcome.{Outcome}
-use Rattle.refusal.specs.declared.Outcome.TheVariants.{Done, Refused as Not}
-use Rattle.refusal.specs.declared.Written.TheVariants.{Length}
 use Rattle.refusal.proofs.Answers.{not_refused}
 use Rattle.refusal.proofs.Distinct.{one_outcome, one_written}
+use Rattle.refusal.specs.declared.Refusal.{Refusal}
 use Rattle.image.specs.Image.{units, fits}
 use Rattle.image.proofs.Fitting.{Fitting, fitting}
 use Rattle.plan_checking.specs.Plan.{start, stop, covers, over, checking}
@@ -33,11 +32,11 @@ use Rattle.transfer_guarantees.specs.Plans.{ChecksExactly, asks, asked, NeverOve
 use Rattle.guarantees.proofs.Refusals.{output_kept}
 
 -- The check.
-module _ (bytes : ℕ) (held values : List ℕ) (r : Outcome) (promise : outcome r ≡ checking bytes held values) where
-  done_is : Good bytes held values → r ≡ Done
-  done_is g = one_outcome r Done (promise ∙ good_done bytes held values g)
+module _ (bytes : ℕ) (held values : List ℕ) (r : Result (Unit {0}) Refusal) (promise : outcome r ≡ checking bytes held values) where
+  done_is : Good bytes held values → r ≡ Ok tt
+  done_is g = one_outcome r (Ok tt) (promise ∙ good_done bytes held values g)
 
-  is_good : r ≡ Done → Good bytes held values
+  is_good : r ≡ Ok tt → Good bytes held values
   is_good e = done_good bytes held values (sym promise ∙ ap outcome e)
 
 pub checks_exactly : ChecksExactly
@@ -45,7 +44,7 @@ checks_exactly bytes held values r promise = (
   (is_good bytes held values r promise, done_is bytes held values r promise),
   (
     λ e g. not_refused (sym (good_done bytes held values g) ∙ (sym promise ∙ ap outcome e)),
-    λ n. one_outcome r (Not BadPlan) (promise ∙ not_done bytes held values n),
+    λ n. one_outcome r (Err BadPlan) (promise ∙ not_done bytes held values n),
   ),
 )
 
@@ -117,8 +116,8 @@ plans_well bytes held old r new promise n e =
 pub room_enough : RoomEnough
 room_enough bytes held old r new promise fit =
     let half : length (values bytes held) ≤ (units bytes + 1) / 2 = (our_plan bytes held fit).half in
-    let written_so : length (values bytes held) ≤ length old → (n : ℕ) × (r ≡ Length n) =
-    λ h. (length (values bytes held), one_written r (Length (length (values bytes held))) (promise.answer ∙ enough (length old) bytes held fit h))
+    let written_so : length (values bytes held) ≤ length old → (n : ℕ) × (r ≡ Ok n) =
+    λ h. (length (values bytes held), one_written r (Ok (length (values bytes held))) (promise.answer ∙ enough (length old) bytes held fit h))
     in
     (λ h. written_so (omega arith), λ h. written_so (omega (arith, (fitting bytes held fit).most)))
 

@@ -3,9 +3,9 @@ use Prim.Native.Nat.{ℕ, ◌+◌, ◌≤◌}
 use mathlib.Core.Path.{◌≡◌, refl, sym, ap, subst, ◌∙◌}
 use mathlib.Core.List.{List, [], ◌∷◌, map}
 use native.Mathlib.Omega.{arith}
-use lib.Dec.{ltb}
 use lib.ListN.{length, take}
 use borrow.Author.Tests.{le-ltb}
+use Rattle.std.specs.Prelude.{Result, Ok, Err}
 use Rattle.ground.specs.Part.{Bytes}
 use Rattle.ground.proofs.Choice.{on, on_lt, on_le, on_eq}
 use Rattle.ground.proofs.Part.{bytes_take, bytes_drop}
@@ -17,9 +17,12 @@ use Rattle.uri_text.specs.Sayable.{SayableTarget}
 use Rattle.uri_text.proofs.Said.{says as says-sayable}
 use Rattle.refusal.specs.Answer.{Answer, given, onward, written, fitted, after}
 use Rattle.refusal.specs.Number.{number_of}
+use Rattle.refusal.specs.declared.Fault.{Fault}
+use Rattle.refusal.specs.declared.Fault.TheVariants.{Refused, BadOption}
 use Rattle.refusal.proofs.Answers.{not_refused}
 use Rattle.refusal.proofs.Distinct.{distinct, one_written}
 use Rattle.refusal.proofs.Fitted.{front_after}
+use Rattle.refusal.specs.declared.Refusal.{Refusal}
 use Rattle.packet.specs.Limits.{max_store, max_options}
 use Rattle.packet.specs.Packet.{Stores, stores, store_of as homeStore, new_packet, bytes_in, records_of}
 use Rattle.packet.specs.Meaning.{option_of, meaning}
@@ -31,15 +34,12 @@ use Rattle.judging.specs.Judge.{lengths_of, is_too_long, bad_packet}
 use Rattle.uri_text.specs.Reading.{reading}
 use Rattle.uri_text.specs.Judging.{judged_read}
 use Rattle.uri_text.specs.Tally.{Tally, total, tallied}
-use Rattle.uri_text.specs.declared.Judged.TheVariants.{Length, BadText as NoText, BadOption as NoOption}
-use Rattle.uri_text.specs.declared.Tallied.TheVariants.{Values as Counted, BadText as NoUri, BadOption as NotSaid}
+use Rattle.uri_text.specs.declared.BadPart.TheVariants.{Text as NoText, Option as NoOption}
 use Rattle.uri_text.proofs.Identity.{identity, stable}
 use Rattle.target_writing.specs.ToText.{text_in, writable}
-use Rattle.target_reading.specs.FromText.{Reply, passes, refused, refused_at, placed, reply_to, packet_for, packet_of, store_of, bare, told, FromText}
-use Rattle.target_reading.specs.declared.Verdict.{Verdict}
-use Rattle.target_reading.specs.declared.Verdict.TheVariants.{Passes, Refused as Not, BadOption}
+use Rattle.target_reading.specs.FromText.{Reply, passes, refused, refused_at, placed, reply_to, packet_for, packet_of, packet_read, store_of, bare, told, FromText}
 use Rattle.target_reading.proofs.Meaning.{options_are}
-use Rattle.guarantees.proofs.Refusals.{output_kept}
+use Rattle.guarantees.proofs.Refusals.{output_kept, not_err}
 use Rattle.transfer_guarantees.specs.Targets.{target_in, WritesText, WritesSpelt, new_message, MeansTarget, HasRoom, Identity, Stable, TextKept, StoreKept, OneText, OneTarget, StableCalls, TextLeaves, ToldApart}
 use Rattle.guarantees.proofs.Homes.{frozen_stays}
 use Rattle.guarantees.specs.Apart.{TellsApart}
@@ -128,11 +128,11 @@ new_with d old start t few room =
     λ i. record { version = 1; type = 0; code = 1; id = 0; token = no_bytes d i; options = os i; payload = no_bytes d i }
 
 pub means_target : MeansTarget
-means_target s start old r new w is =
+means_target s start old r new w q is =
     let f = passed (reply_to (length old) start s) (sym (ap told is) ∙ w.outcome) in
     let t : Target = f.0 in
     let g = says old start s t f.1 in
-    let p : r.packet ≡ packet_for start t = w.packet ∙ ap (packet_of start) f.1 in
+    let p : q ≡ packet_for start t = sym (ap packet_read is) ∙ (w.packet ∙ ap (packet_of start) f.1) in
     let n = w.store ∙ ap (λ (a : Reply Target). store_of start a old) f.1 in (
       t,
       g.0,
@@ -141,10 +141,10 @@ means_target s start old r new w is =
           ∙ (ap (λ (x : List ℕ). meaning (stores d x) (packet_for start t)) n ∙ new_with d old start t g.1.few g.1.room),
     )
 
-told_passes : (v : Verdict) → told v ≡ passes tt → v ≡ Passes
-told_passes Passes e = refl
-told_passes (Not k) e = no_pass e
-told_passes (BadOption i) e = no_pass_at e
+told_passes : (r : Result Packet Fault) → told r ≡ passes tt → (p : Packet) × (r ≡ Ok p)
+told_passes (Ok p) e = (p, refl)
+told_passes (Err (Refused k)) e = no_pass e
+told_passes (Err (BadOption i)) e = no_pass_at e
 
 same_good : {A : Type 0} {a b : A} → good a ≡ good b → a ≡ b
 same_good e = cc
@@ -162,19 +162,19 @@ identity_holds s p old r new n w is sayable start old₂ room r₂ new₂ back =
     let text : FromText (text_of t) start old₂ r₂ new₂ = subst (λ (x : List ℕ). FromText x start old₂ r₂ new₂) (writes_text s p old r new n w is) back in
     let reads : reading (text_of t) ≡ good t = identity t sayable in
     let reply = has_passed old₂ start (text_of t) t reads room in
-    let done : r₂.outcome ≡ Passes = told_passes r₂.outcome (text.outcome ∙ ap bare reply) in
-    let m = means_target (text_of t) start old₂ r₂ new₂ text done in
+    let done = told_passes r₂ (text.outcome ∙ ap bare reply) in
+    let m = means_target (text_of t) start old₂ r₂ new₂ text done.0 done.1 in
     let same : m.0 ≡ t = same_good (sym m.1 ∙ reads) in
-    (done, λ d. ap (λ (x : Message). target_of x.options) (m.2 d) ∙ (target_back m.0 ∙ same))
+    (done.0, done.1, λ d. ap (λ (x : Message). target_of x.options) (m.2 d) ∙ (target_back m.0 ∙ same))
 
 pub stable_holds : Stable
 stable_holds = stable
 
 pub stable_calls : StableCalls
-stable_calls s start old r new from is d old₂ w text n to length_is start₃ old₃ room q new₃ back =
-    let m = means_target s start old r new from is in
-    let same : target_in (stores d new) r.packet ≡ m.0 = ap (λ (x : Message). target_of x.options) (m.2 d) ∙ target_back m.0 in
-    identity_holds (stores d new) r.packet old₂ w text n to length_is (subst SayableTarget (sym same) (says-sayable s m.0 m.1)) start₃ old₃ room q new₃ back
+stable_calls s start old r new from p is d old₂ w text n to length_is start₃ old₃ room q new₃ back =
+    let m = means_target s start old r new from p is in
+    let same : target_in (stores d new) p ≡ m.0 = ap (λ (x : Message). target_of x.options) (m.2 d) ∙ target_back m.0 in
+    identity_holds (stores d new) p old₂ w text n to length_is (subst SayableTarget (sym same) (says-sayable s m.0 m.1)) start₃ old₃ room q new₃ back
 
 pub text_leaves : TextLeaves
 text_leaves datagram text start old r new promise range e = frozen_stays datagram old new range e
@@ -183,54 +183,53 @@ pub text_kept : TextKept
 text_kept s p old r new w e is = output_kept (onward (writable s p) (fitted (length old))) 0 (text_in s p) old r new w.answer w.output e is
 
 pub store_kept : StoreKept
-store_kept s start old r new w never = by (reply_to (length old) start s) refl
+store_kept s start old r new w f is = by (reply_to (length old) start s) refl
   where
-    by : (a : Reply Target) → reply_to (length old) start s ≡ a → (new ≡ old) × (r.packet ≡ new_packet)
-    by (passes t) e = absurd (never (told_passes r.outcome (w.outcome ∙ ap bare e)))
+    by : (a : Reply Target) → reply_to (length old) start s ≡ a → (new ≡ old) × (packet_read r ≡ new_packet)
+    by (passes t) e = not_err (sym (told_passes r (w.outcome ∙ ap bare e)).1 ∙ is)
     by (refused k) e = (w.store ∙ ap (λ (a : Reply Target). store_of start a old) e, w.packet ∙ ap (packet_of start) e)
     by (refused_at k i) e = (w.store ∙ ap (λ (a : Reply Target). store_of start a old) e, w.packet ∙ ap (packet_of start) e)
 
 pub one_text : OneText
 one_text s p old r q new also w v = (one_written r q (w.answer ∙ sym v.answer), w.output ∙ sym v.output)
 
-one_told : (a b : Verdict) → told a ≡ told b → a ≡ b
-one_told Passes Passes e = refl
-one_told Passes (Not k) e = no_pass (sym e)
-one_told Passes (BadOption i) e = no_pass_at (sym e)
-one_told (Not j) Passes e = no_pass e
-one_told (Not j) (Not k) e = let n : number_of j ≡ number_of k = cc in ap Not (distinct j k n)
-one_told (Not j) (BadOption i) e = let z : ◌≡◌ {A = ℕ} 0 1 = cc in absurd (omega arith)
-one_told (BadOption i) Passes e = no_pass_at e
-one_told (BadOption i) (Not k) e = let z : ◌≡◌ {A = ℕ} 0 1 = cc in absurd (omega arith)
-one_told (BadOption i) (BadOption j) e = let n : i ≡ j = cc in ap BadOption n
+one_told : (r q : Result Packet Fault) → told r ≡ told q → packet_read r ≡ packet_read q → r ≡ q
+one_told (Ok a) (Ok b) e p = ap Ok p
+one_told (Ok a) (Err (Refused k)) e p = no_pass (sym e)
+one_told (Ok a) (Err (BadOption i)) e p = no_pass_at (sym e)
+one_told (Err (Refused j)) (Ok b) e p = no_pass e
+one_told (Err (Refused j)) (Err (Refused k)) e p = let n : number_of j ≡ number_of k = cc in ap (λ (x : Refusal). Err (Refused x)) (distinct j k n)
+one_told (Err (Refused j)) (Err (BadOption i)) e p = let z : ◌≡◌ {A = ℕ} 0 1 = cc in absurd (omega arith)
+one_told (Err (BadOption i)) (Ok b) e p = no_pass_at e
+one_told (Err (BadOption i)) (Err (Refused k)) e p = let z : ◌≡◌ {A = ℕ} 0 1 = cc in absurd (omega arith)
+one_told (Err (BadOption i)) (Err (BadOption j)) e p = let n : i ≡ j = cc in ap (λ (x : ℕ). Err (BadOption x)) n
 
 pub one_target : OneTarget
-one_target s start old r q new also w v =
-    let o : r.outcome ≡ q.outcome = one_told r.outcome q.outcome (w.outcome ∙ sym v.outcome) in
-    let p : r.packet ≡ q.packet = w.packet ∙ sym v.packet in
-    ((λ i. record { outcome = o i; packet = p i }), w.store ∙ sym v.store)
+one_target s start old r q new also w v = (one_told r q (w.outcome ∙ sym v.outcome) (w.packet ∙ sym v.packet), w.store ∙ sym v.store)
 
 one_uri_part : TellsApart judged_read
-one_uri_part (Length m) (Length n) e = cc
-one_uri_part (Length m) NoText e = cc
-one_uri_part (Length m) (NoOption j) e = cc
-one_uri_part NoText (Length n) e = cc
-one_uri_part NoText NoText e = refl
-one_uri_part NoText (NoOption j) e = cc
-one_uri_part (NoOption i) (Length n) e = cc
-one_uri_part (NoOption i) NoText e = cc
-one_uri_part (NoOption i) (NoOption j) e = cc
+one_uri_part (Ok m) (Ok n) e = cc
+one_uri_part (Ok m) (Err NoText) e = cc
+one_uri_part (Ok m) (Err (NoOption j)) e = cc
+one_uri_part (Err NoText) (Ok n) e = cc
+one_uri_part (Err NoText) (Err NoText) e = refl
+one_uri_part (Err NoText) (Err (NoOption j)) e = cc
+one_uri_part (Err (NoOption i)) (Ok n) e = cc
+one_uri_part (Err (NoOption i)) (Err NoText) e = cc
+one_uri_part (Err (NoOption i)) (Err (NoOption j)) e = cc
 
 one_uri_text : TellsApart tallied
-one_uri_text (Counted a b) (Counted c d) e = let k : ◌≡◌ {A = Tally} (record { count = a; bytes = b }) (record { count = c; bytes = d }) = cc in rw (ap (λ (x : Tally). x.count) k, ap (λ (x : Tally). x.bytes) k)
-one_uri_text (Counted a b) NoUri e = cc
-one_uri_text (Counted a b) (NotSaid j) e = cc
-one_uri_text NoUri (Counted c d) e = cc
-one_uri_text NoUri NoUri e = refl
-one_uri_text NoUri (NotSaid j) e = cc
-one_uri_text (NotSaid i) (Counted c d) e = cc
-one_uri_text (NotSaid i) NoUri e = cc
-one_uri_text (NotSaid i) (NotSaid j) e = cc
+one_uri_text (Ok a) (Ok b) e =
+    let k : ◌≡◌ {A = Tally} (record { count = a.count; bytes = a.bytes }) (record { count = b.count; bytes = b.bytes }) = same_good e in
+    λ i. Ok (record { count = (k i).count; bytes = (k i).bytes })
+one_uri_text (Ok a) (Err NoText) e = cc
+one_uri_text (Ok a) (Err (NoOption j)) e = cc
+one_uri_text (Err NoText) (Ok b) e = cc
+one_uri_text (Err NoText) (Err NoText) e = refl
+one_uri_text (Err NoText) (Err (NoOption j)) e = cc
+one_uri_text (Err (NoOption i)) (Ok b) e = cc
+one_uri_text (Err (NoOption i)) (Err NoText) e = cc
+one_uri_text (Err (NoOption i)) (Err (NoOption j)) e = cc
 
 pub told_apart : ToldApart
 told_apart =

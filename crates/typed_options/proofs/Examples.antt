@@ -3,6 +3,7 @@ use Prim.Native.Nat.{ℕ, ◌+◌}
 use mathlib.Core.Path.{◌≡◌, refl}
 use mathlib.Core.List.{List, [], ◌∷◌, ◌++◌}
 use lib.ListN.{replicate}
+use Rattle.std.specs.Prelude.{Some, None}
 use Rattle.rfc.specs.Uint.{uint}
 use Rattle.refusal.specs.Answer.{given, refused, after}
 use Rattle.option_value.specs.Uint.{with_zeros, read_uint}
@@ -15,7 +16,14 @@ use Rattle.splicing.specs.Splice.{with_records, record_of}
 use Rattle.editing.specs.Edit.{added, option_set}
 use Rattle.typed_options.specs.Setters.{format_set, observe_set}
 use Rattle.typed_options.specs.Getters.{format_in, observe_in, number}
-use Rattle.typed_options.specs.declared.ContentFormat.TheVariants.{Format, None}
+use Rattle.typed_options.specs.declared.ContentFormat.{ContentFormat}
+
+-- A content format with its zeros, and none with its zeros.
+listed_as : ℕ → ℕ → ContentFormat
+listed_as n zeros = record { format = Some n; zeros = zeros }
+
+unlisted : ℕ → ContentFormat
+unlisted zeros = record { format = None; zeros = zeros }
 
 at : ℕ → ℕ → OptionRecord
 at n start = record { number = n; home = Edits; spare = 0; start = start; len = 1 }
@@ -42,8 +50,8 @@ homes = (refl, refl)
 -- A value is read from its own store, and one that is not inside it has no bytes, whatever the other store holds.
 read_homes : (observe_in (stores (5 ∷ []) (7 ∷ [])) (with_records new_packet (record_of 6 (in_datagram 0 1) ∷ [])) ≡ given (number (with_zeros 0 5)))
     × (observe_in (stores [] (7 ∷ [])) (with_records new_packet (record_of 6 (in_datagram 0 1) ∷ [])) ≡ given (number (with_zeros 0 0)))
-    × (format_in (stores [] (60 ∷ [])) (with_records new_packet (record_of 12 (in_datagram 0 1) ∷ [])) ≡ Format 0 0)
-unfolding observe_in format_in new_packet read_uint bytes_in content_formats
+    × (format_in (stores [] (60 ∷ [])) (with_records new_packet (record_of 12 (in_datagram 0 1) ∷ [])) ≡ listed_as 0 0)
+unfolding observe_in format_in new_packet read_uint bytes_in content_formats listed_as
 read_homes = (refl, refl, refl)
 
 -- A zero writes no byte, and its start still counts: the store's length is fine, one more is 12.
@@ -54,8 +62,8 @@ zeros = (refl, refl)
 -- A content format is added: after 60 and then 50 it reads 60.
 formats : (format_set (60 ∷ 0 ∷ []) 1 (with_records new_packet (at 12 0 ∷ [])) 50 ≡ given (with_records new_packet (at 12 0 ∷ at 12 1 ∷ [])))
     × (after (given (tt {0})) 1 (uint 2 50) (60 ∷ 0 ∷ []) ≡ (60 ∷ 50 ∷ []))
-    × (format_in (stores [] (60 ∷ 50 ∷ [])) (with_records new_packet (at 12 0 ∷ at 12 1 ∷ [])) ≡ Format 60 0)
-unfolding format_set added format_in new_packet read_uint bytes_in content_formats uint at
+    × (format_in (stores [] (60 ∷ 50 ∷ [])) (with_records new_packet (at 12 0 ∷ at 12 1 ∷ [])) ≡ listed_as 60 0)
+unfolding format_set added format_in new_packet read_uint bytes_in content_formats uint at listed_as
 formats = (refl, refl, refl)
 
 -- Records of one number, whose values have these lengths and stand one after the other.
@@ -65,13 +73,13 @@ sized n start (l ∷ ls) = record_of n (record { home = Edits; start = start; le
 
 -- Content formats: an unlisted one reads as none with its zeros, an over-long one as none with no zeros, and the first decides
 -- the number and the zeros.
-format_zeros_lem : (format_in (stores [] (0 ∷ 60 ∷ 60 ∷ [])) (with_records new_packet (sized 12 0 (2 ∷ 1 ∷ []))) ≡ Format 60 1)
-    × (format_in (stores [] (60 ∷ 0 ∷ 60 ∷ [])) (with_records new_packet (sized 12 0 (1 ∷ 2 ∷ []))) ≡ Format 60 0)
-    × (format_in (stores [] (0 ∷ 1 ∷ [])) (with_records new_packet (sized 12 0 (2 ∷ []))) ≡ None 1)
-    × (format_in (stores [] (0 ∷ 0 ∷ 60 ∷ [])) (with_records new_packet (sized 12 0 (3 ∷ []))) ≡ None 0)
-    × (format_in (stores [] (0 ∷ 0 ∷ 0 ∷ [])) (with_records new_packet (sized 12 0 (3 ∷ []))) ≡ None 0)
-    × (format_in (stores [] []) new_packet ≡ None 0)
-unfolding format_in new_packet read_uint bytes_in content_formats sized
+format_zeros_lem : (format_in (stores [] (0 ∷ 60 ∷ 60 ∷ [])) (with_records new_packet (sized 12 0 (2 ∷ 1 ∷ []))) ≡ listed_as 60 1)
+    × (format_in (stores [] (60 ∷ 0 ∷ 60 ∷ [])) (with_records new_packet (sized 12 0 (1 ∷ 2 ∷ []))) ≡ listed_as 60 0)
+    × (format_in (stores [] (0 ∷ 1 ∷ [])) (with_records new_packet (sized 12 0 (2 ∷ []))) ≡ unlisted 1)
+    × (format_in (stores [] (0 ∷ 0 ∷ 60 ∷ [])) (with_records new_packet (sized 12 0 (3 ∷ []))) ≡ unlisted 0)
+    × (format_in (stores [] (0 ∷ 0 ∷ 0 ∷ [])) (with_records new_packet (sized 12 0 (3 ∷ []))) ≡ unlisted 0)
+    × (format_in (stores [] []) new_packet ≡ unlisted 0)
+unfolding format_in new_packet read_uint bytes_in content_formats sized listed_as unlisted
 format_zeros_lem = (refl, refl, refl, refl, refl, refl)
 
 -- Observe: an empty value is the number 0, five bytes are refused, and the first value decides here too.

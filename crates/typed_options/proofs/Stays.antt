@@ -4,13 +4,14 @@ use Prim.Native.Nat.{ℕ}
 use mathlib.Core.Path.{◌≡◌, refl, ap, ◌∙◌}
 use mathlib.Core.List.{List}
 use lib.ListN.{length}
+use Rattle.std.specs.Prelude.{Result}
 use Rattle.refusal.specs.Answer.{Answer, given, refused, after}
+use Rattle.refusal.specs.declared.Refusal.{Refusal}
 use Rattle.packet.specs.Packet.{stores, bytes_of, records_of}
 use Rattle.packet.specs.Meaning.{meaning}
 use Rattle.packet.specs.declared.Packet.{Packet}
 use Rattle.packet.specs.declared.Range.{Range}
 use Rattle.packet.specs.declared.Home.TheVariants.{Datagram}
-use Rattle.splicing.specs.declared.Edited.{Edited}
 use Rattle.typed_options.specs.Apart.{Apart, Untouched}
 use Rattle.typed_options.specs.Setters.{Sets}
 use Rattle.typed_options.proofs.Apart.{apart_bytes, meaning_apart}
@@ -25,7 +26,7 @@ after_either : (P : List ℕ → Type 0) (a : Answer Packet) (start : ℕ) (byte
 after_either P (given q) start bytes old kept put = put
 after_either P (refused k) start bytes old kept put = kept
 
-module _ (p : Packet) (a : Answer Packet) (start : ℕ) (bytes old : List ℕ) (r : Edited) (new : List ℕ) (s : Sets p a start bytes old r new) (d : List ℕ) where
+module _ (p : Packet) (a : Answer Packet) (start : ℕ) (bytes old : List ℕ) (r : Result Packet Refusal) (new : List ℕ) (s : Sets p a start bytes old r new) (d : List ℕ) where
   pub range_stays : (range : Range) → Apart start (length bytes) range → bytes_of (stores d new) range ≡ bytes_of (stores d old) range
   range_stays range h =
       ap (λ (l : List ℕ). bytes_of (stores d l) range) s.store

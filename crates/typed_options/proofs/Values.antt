@@ -19,10 +19,9 @@ use Rattle.editing.specs.Edit.{removed, cleared}
 use Rattle.editing.specs.Message.{option_added, options_set}
 use Rattle.editing.proofs.Meaning.{meaning_added, meaning_set, map_removed}
 use Rattle.editing.proofs.Values.{added_values, set_values, cleared_values}
-use Rattle.typed_options.specs.Getters.{format_of, format_in, number, absent, observe_in}
+use Rattle.typed_options.specs.Getters.{no_format, format_of, format_in, number, absent, observe_in}
 use Rattle.typed_options.specs.Setters.{range_at, format_set, observe_set}
 use Rattle.typed_options.specs.Apart.{Apart, Untouched}
-use Rattle.typed_options.specs.declared.ContentFormat.TheVariants.{None}
 use Rattle.typed_options.proofs.Apart.{apart_bytes, own_bytes, apart_options, meaning_apart}
 use Rattle.typed_options.proofs.Stored.{stored_format, stored_observe}
 
@@ -82,7 +81,7 @@ module _ (d old : List ℕ) (start n : ℕ) (p q : Packet) where
         rw (set_values p q 6 (range_at start (uint 4 n) ∷ []) s.made, own_bytes old start (uint 4 n) s.inside, written_then_read 4 n (omega arith) small) refl
 
 -- A cleared content format or Observe reads as none.
-pub format_cleared : (s : Stores) (p q : Packet) → cleared p 12 ≡ given q → format_in s q ≡ None 0
+pub format_cleared : (s : Stores) (p q : Packet) → cleared p 12 ≡ given q → format_in s q ≡ no_format
 unfolding format_in
 format_cleared s p q e = rw (cleared_values p q 12 e) refl
 

@@ -1,18 +1,19 @@
 -- The packet of a flat form: what makes numbers one, and what packet they are.
-use Rattle.std.specs.Prelude.{ℕ, zero, suc, ◌+◌, ◌-◌, ◌*◌, Bool, false, List, [], ◌∷◌, ◌++◌, length, get_or, replicate, ltb, eqb}
+use Rattle.std.specs.Prelude.{ℕ, zero, suc, ◌+◌, ◌-◌, ◌*◌, Bool, false, List, [], ◌∷◌, ◌++◌, length, get_or, replicate, ltb, eqb, Result, Ok, Err}
 use Rattle.ground.specs.Choice.{pick, either}
-use Rattle.refusal.specs.Answer.{Answer, given, refused, outcome, Beside}
+use Rattle.refusal.specs.Answer.{Answer, given, refused, Beside}
+use Rattle.refusal.specs.Number.{number_of}
+use Rattle.refusal.specs.declared.Refusal.{Refusal}
 use Rattle.class.specs.Class.{class_of}
 use Rattle.header.specs.Header.{type_of}
 use Rattle.header.specs.declared.Header.{Header}
 use Rattle.packet.specs.Limits.{max_options}
-use Rattle.packet.specs.Packet.{none}
+use Rattle.packet.specs.Packet.{none, new_packet}
 use Rattle.packet.specs.declared.Packet.{Packet}
 use Rattle.packet.specs.declared.OptionRecord.{OptionRecord}
 use Rattle.packet.specs.declared.Range.{Range}
 use Rattle.packet.specs.declared.Home.{Home}
 use Rattle.packet.specs.declared.Home.TheVariants.{Datagram, Edits}
-use Rattle.unflat.specs.declared.Taken.{Taken}
 
 -- Version over 255, type over 3, code byte over 255, id over 65535, a home of token or payload other than 0 and 1, or over
 -- 128 records.
@@ -84,6 +85,7 @@ packet_in l =
 unfoldable pub unflat : List ℕ → Answer Packet
 unflat l = pick (bad_flat l) (refused 11) (given (packet_in l))
 
--- The answer of taking a packet out of numbers: how it ended, and the packet beside it.
-abbrev pub taken : Taken → Beside Packet
-taken t = record { answer = outcome t.outcome; value = t.packet }
+-- The answer of taking a packet out of numbers: how it ended, and the packet beside it, which is the new packet beside a refusal.
+abbrev pub taken : Result Packet Refusal → Beside Packet
+taken (Ok p) = record { answer = given tt; value = p }
+taken (Err e) = record { answer = refused (number_of e); value = new_packet }

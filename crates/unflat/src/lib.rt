@@ -10,35 +10,19 @@ use class::MessageClass;
 use header::{Header, MessageType};
 use packet::limits::MAX_OPTIONS;
 use packet::{Home, OptionRecord, Packet, Range};
-use refusal::{Outcome, Refusal};
-
-// What taking a packet out of numbers answers. Beside a refusal stands the new packet.
-#[derive(Clone, Copy)]
-pub struct Taken {
-    pub outcome: Outcome,
-    pub packet: Packet,
-}
+use refusal::Refusal;
 
 // The packet of a flat form; numbers that are none give BadRecord (11).
-pub fn packet_in(numbers: &[u32]) -> Taken
+pub fn packet_in(numbers: &[u32]) -> Result<Packet, Refusal>
     ensures { taken result ≡ beside new_packet (unflat numbers.now) }
 {
     if bad_flat(numbers) {
-        return Taken {
-            outcome: Outcome::Refused(Refusal::BadRecord),
-            packet: Packet::new(),
-        };
+        return Err(Refusal::BadRecord);
     }
     if numbers[10] == 0 {
-        return Taken {
-            outcome: Outcome::Done,
-            packet: bare_packet(numbers),
-        };
+        return Ok(bare_packet(numbers));
     }
-    Taken {
-        outcome: Outcome::Done,
-        packet: good_packet(numbers),
-    }
+    Ok(good_packet(numbers))
 }
 
 // Whether numbers are no packet's flat form.
@@ -95,12 +79,10 @@ fn bad_numbers(numbers: &[u32], count: usize) -> bool
     requires { 11 + 4 * count ≤ length numbers.now }
     ensures { result ≡ bad_numbers numbers.now count }
 {
-    let mut i = 0;
-    while i < count {
+    for i in 0..count {
         if bad_record(numbers, 11 + 4 * i) {
             return true;
         }
-        i = i + 1;
     }
     false
 }
@@ -141,10 +123,8 @@ fn good_packet(numbers: &[u32]) -> Packet
     let payload = range_in(numbers, 7);
     let count = numbers[10] as usize;
     let mut options = [OptionRecord::EMPTY; MAX_OPTIONS];
-    let mut i = 0;
-    while i < count {
+    for i in 0..count {
         options[i] = record_in(numbers, 11 + 4 * i);
-        i = i + 1;
     }
     Packet {
         header,

@@ -16,8 +16,11 @@ use Rattle.rfc.specs.Target.{Target, path_of, query_of, onto, split, parts, segm
 use Rattle.rfc.proofs.Percent.{no_text, no_option, good_same, on_good_lem, before_good, decoded}
 use Rattle.percent.proofs.Stepping.{left_at}
 use Rattle.uri_text.specs.Reading.{ruled, value_of, values_of, reading}
-use Rattle.uri_text.specs.Judging.{length_of}
-use Rattle.uri_text.specs.Tally.{first_length, Tally, total, tally_from, tally}
+use Rattle.std.specs.Prelude.{Err}
+use Rattle.uri_text.specs.declared.BadPart.{BadPart}
+use Rattle.uri_text.specs.declared.BadPart.TheVariants.{Text, Option as AnOption}
+use Rattle.uri_text.specs.Judging.{judged_read, length_of}
+use Rattle.uri_text.specs.Tally.{first_length, Tally, total, tally_from, tallied, tally}
 use Rattle.uri_text.proofs.Said.{ruled_says}
 
 pub first_small : (sep : ℕ) (s : List ℕ) → first_length sep s ≤ length s
@@ -179,17 +182,21 @@ module _ (kind : Kind) (sep passed weight : ℕ) (s : List ℕ) (from count byte
       split_next sep x k ∙ (ap (λ (n : ℕ). take n x ∷ split sep (drop (suc (first_length sep x)) x)) (sym m) ∙ ap (λ (y : List ℕ). take (end - from) x ∷ split sep y) t) in
       ap (λ (ps : List (List ℕ)). tally_from count bytes (values_of kind count ps)) (sym q) ∙ w.all
 
-  pub walk_text : bad_text ≡ length_of (value_of kind count (take (end - from) (drop from s))) → bad_text ≡ tally_from passed weight (values_of kind passed (parts sep s))
+  walk_text : bad_text ≡ length_of (value_of kind count (take (end - from) (drop from s))) → bad_text ≡ tally_from passed weight (values_of kind passed (parts sep s))
   walk_text q =
       by_eq end (length s)
       (λ e. tally_text (value_of kind count (take (end - from) (drop from s))) (good []) count bytes q ∙ here_last e)
       (λ e. tally_text (value_of kind count (take (end - from) (drop from s))) (values_of kind (count + 1) (split sep (drop (end + 1) s))) count bytes q ∙ here_next e)
 
-  pub walk_option : (i : ℕ) → bad_option i ≡ length_of (value_of kind count (take (end - from) (drop from s))) → bad_option i ≡ tally_from passed weight (values_of kind passed (parts sep s))
+  walk_option : (i : ℕ) → bad_option i ≡ length_of (value_of kind count (take (end - from) (drop from s))) → bad_option i ≡ tally_from passed weight (values_of kind passed (parts sep s))
   walk_option i q =
       by_eq end (length s)
       (λ e. tally_option i (value_of kind count (take (end - from) (drop from s))) (good []) count bytes q ∙ here_last e)
       (λ e. tally_option i (value_of kind count (take (end - from) (drop from s))) (values_of kind (count + 1) (split sep (drop (end + 1) s))) count bytes q ∙ here_next e)
+
+  pub walk_bad : (b : BadPart) → judged_read (Err b) ≡ length_of (value_of kind count (take (end - from) (drop from s))) → tallied (Err b) ≡ tally_from passed weight (values_of kind passed (parts sep s))
+  walk_bad Text q = walk_text q
+  walk_bad (AnOption i) q = walk_option i q
 
   module _ (n : ℕ) (q : good n ≡ length_of (value_of kind count (take (end - from) (drop from s)))) where
     pub part_small : from + n ≤ end
@@ -335,12 +342,16 @@ module _ (s : List ℕ) (mark : ℕ) (found : mark ≡ 0 + first_length 0x3F s) 
   moved : (r : Read Tally) → PathTally r → r ≡ tally_from 0 0 (on_good (segments_of (path_of s)) (values_of segment 0))
   moved r e = e ∙ ap (λ (p : List ℕ). tally_from 0 0 (on_good (segments_of p) (values_of segment 0))) path_is
 
-  pub text_bad : PathTally bad_text → bad_text ≡ tally (reading s)
-  text_bad e = tally_bad s (on_good (segments_of (path_of s)) (values_of segment 0)) (moved bad_text e) ∙ ap tally (sym (reading_by s))
+  text_no_text : PathTally bad_text → bad_text ≡ tally (reading s)
+  text_no_text e = tally_bad s (on_good (segments_of (path_of s)) (values_of segment 0)) (moved bad_text e) ∙ ap tally (sym (reading_by s))
 
-  pub text_option : (i : ℕ) → PathTally (bad_option i) → bad_option i ≡ tally (reading s)
+  text_option : (i : ℕ) → PathTally (bad_option i) → bad_option i ≡ tally (reading s)
   text_option i e =
       tally_bad_option i s (on_good (segments_of (path_of s)) (values_of segment 0)) (moved (bad_option i) e) ∙ ap tally (sym (reading_by s))
+
+  pub text_bad : (b : BadPart) → PathTally (tallied (Err b)) → tallied (Err b) ≡ tally (reading s)
+  text_bad Text e = text_no_text e
+  text_bad (AnOption i) e = text_option i e
 
   module _ (count bytes : ℕ) (e : PathTally (good (record { count = count; bytes = bytes }))) where
     pub few_segments : (count ≤ mark) × (bytes ≤ mark)

@@ -1,23 +1,24 @@
--- A part judged while it is decoded: what each byte leaves due of a character, and the rules at the end, by lengths alone.
-use Rattle.std.specs.Prelude.{ℕ, ◌≡◌, Bool, false, List, ◌∷◌, ltb, length}
+-- A part judged while it is decoded: the rules at the end, by lengths alone.
+use Rattle.std.specs.Prelude.{ℕ, Bool, false, List, ltb, length, Result, Ok, Err}
 use Rattle.ground.specs.Choice.{pick, both, either, within}
 use Rattle.rfc.specs.Uri.{Kind, segment, query}
 use Rattle.rfc.specs.Percent.{Read, good, bad_text, bad_option, on_good}
-use Rattle.utf8.specs.Walk.{text_from, on_lead}
-use Rattle.utf8.specs.Row.{dues, row_of}
-use Rattle.utf8.specs.declared.Lead.{Lead}
-use Rattle.uri_text.specs.declared.Judged.{Judged}
-use Rattle.uri_text.specs.declared.Judged.TheVariants.{Length, BadText, BadOption}
-
--- What a byte leaves due of a character, whatever comes after it.
-pub record LeftDue (count low high b : ℕ) (r : Lead) : Type 0 where
-  pub is : (bs : List ℕ) → text_from (dues count low high) (b ∷ bs) ≡ on_lead (row_of r) (λ rest. text_from rest bs)
+use Rattle.refusal.specs.declared.Fault.{Fault}
+use Rattle.refusal.specs.declared.Fault.TheVariants.{Refused, BadOption}
+use Rattle.refusal.specs.declared.Refusal.TheVariants.{BadText}
+use Rattle.uri_text.specs.declared.BadPart.{BadPart}
+use Rattle.uri_text.specs.declared.BadPart.TheVariants.{Text, Option as AnOption}
 
 -- What the code answers of a part: its value's length, as it is defined.
-abbrev pub judged_read : Judged → Read ℕ
-judged_read (Length n) = good n
-judged_read BadText = bad_text
-judged_read (BadOption index) = bad_option index
+abbrev pub judged_read : Result ℕ BadPart → Read ℕ
+judged_read (Ok n) = good n
+judged_read (Err Text) = bad_text
+judged_read (Err (AnOption index)) = bad_option index
+
+-- Why options are refused that a bad part would be among.
+abbrev pub fault_of : BadPart → Fault
+fault_of Text = Refused BadText
+fault_of (AnOption index) = BadOption index
 
 abbrev pub length_of : Read (List ℕ) → Read ℕ
 length_of r = on_good r (λ v. good (length v))

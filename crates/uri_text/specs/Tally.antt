@@ -1,10 +1,11 @@
 -- A walk over all parts of a text: where each ends, how many there are, and how many bytes their values have.
-use Rattle.std.specs.Prelude.{ℕ, suc, ◌+◌, List, [], ◌∷◌, eqb, length}
+use Rattle.std.specs.Prelude.{ℕ, suc, ◌+◌, List, [], ◌∷◌, eqb, length, Result, Ok, Err}
 use Rattle.ground.specs.Choice.{pick}
 use Rattle.rfc.specs.Percent.{Read, good, bad_text, bad_option, on_good}
 use Rattle.rfc.specs.Target.{Target}
-use Rattle.uri_text.specs.declared.Tallied.{Tallied}
-use Rattle.uri_text.specs.declared.Tallied.TheVariants.{Values, BadText, BadOption}
+use Rattle.uri_text.specs.declared.BadPart.{BadPart}
+use Rattle.uri_text.specs.declared.BadPart.TheVariants.{Text, Option as AnOption}
+use Rattle.uri_text.specs.declared.Tally.{Tally as Values}
 
 -- How many characters stand before the first separator, or in all.
 unfoldable pub first_length : (separator : ℕ) → List ℕ → ℕ
@@ -31,7 +32,7 @@ tally r =
     good (record { count = length t.path + length t.query; bytes = total t.path + total t.query }))
 
 -- What the code answers, as it is defined.
-abbrev pub tallied : Tallied → Read Tally
-tallied (Values count bytes) = good (record { count = count; bytes = bytes })
-tallied BadText = bad_text
-tallied (BadOption index) = bad_option index
+abbrev pub tallied : Result Values BadPart → Read Tally
+tallied (Ok t) = good (record { count = t.count; bytes = t.bytes })
+tallied (Err Text) = bad_text
+tallied (Err (AnOption index)) = bad_option index

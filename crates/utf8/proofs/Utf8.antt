@@ -8,15 +8,16 @@ use native.Mathlib.Omega.{arith}
 use lib.Dec.{T, eqb, eqb→eq}
 use lib.ListN.{length, get_or, drop, replicate, length-replicate, drop_of_length-le}
 use lib.Seq.{drop-cons}
-use borrow.Author.Tests.{le-leb, lt-leb, ne_eqb}
+use borrow.Author.Tests.{ne_eqb}
 use Rattle.ground.specs.Choice.{both, within}
 use Rattle.ground.specs.Table.{every}
 use Rattle.ground.proofs.Choice.{on}
 use Rattle.ground.proofs.Table.{at, both_left, both_right}
 use Rattle.rfc.specs.Text.{Range, tail, rows, in_range}
 use Rattle.utf8.specs.Walk.{Lead, due, never, lead_in, lead, text_from, text}
-use Rattle.utf8.specs.Row.{dues, led_by, row_of}
-use Rattle.utf8.specs.declared.Lead.{Lead as Code}
+use Rattle.utf8.specs.Row.{dues, led_by, row_of, LeftDue}
+use Rattle.utf8.specs.declared.Due.{Due}
+use Rattle.std.specs.Prelude.{Option, Some, None}
 
 -- Two lists of ranges are the same, and so what two bytes call for.
 abbrev same_ranges : List Range → List Range → Bool
@@ -73,7 +74,7 @@ led_in ([] ∷ more) t b = led_in more t b
 led_in ((r ∷ rest) ∷ more) t b = on (λ (x : Lead). row_of (led_by x) ≡ x) (in_range r b) (λ _. t.0) (λ _. led_in more t.1 b)
 
 -- So what the code says of a first byte is what the byte calls for.
-pub led : (b : ℕ) {r : Code} → r ≡ led_by (lead b) → lead b ≡ row_of r
+pub led : (b : ℕ) {r : Option Due} → r ≡ led_by (lead b) → lead b ≡ row_of r
 unfolding rows AllTails
 led b e = sym (led_in rows (refl, (refl, (refl, (refl, (refl, (refl, (refl, (refl, (refl, tt))))))))) b) ∙ ap row_of (sym e)
 
@@ -96,41 +97,20 @@ at_next (suc n) low high b bs z =
     rw (less, sym (tails n)) refl
 
 -- At the place `i` these bytes are due, and the whole is text exactly when the rest is.
-pub record Judging (bs : List ℕ) (count low high i : ℕ) : Type 0 where
+pub record Judging (bs : List ℕ) (d : Due) (i : ℕ) : Type 0 where
   pub place : i ≤ length bs
-  pub all : text_from (dues count low high) (drop i bs) ≡ text bs
+  pub all : text_from (dues d.count d.low d.high) (drop i bs) ≡ text bs
 
-pub judging_start : (bs : List ℕ) → Judging bs 0 0x80 0xBF 0
-judging_start bs = record { place = omega arith; all = refl }
-
-pub judging_end : {bs : List ℕ} {count low high i : ℕ} → length bs ≤ i → Judging bs count low high i → eqb count 0 ≡ text bs
-judging_end {bs} {count} {low} {high} h s = sym (at_end count low high) ∙ (rw (drop_of_length-le bs h) at s.all)
+pub judging_end : {bs : List ℕ} {d : Due} {i : ℕ} → length bs ≤ i → Judging bs d i → eqb d.count 0 ≡ text bs
+judging_end {bs} {d} h s = sym (at_end d.count d.low d.high) ∙ (rw (drop_of_length-le bs h) at s.all)
 
 -- The byte at the place, first of what is left.
-module _ {bs : List ℕ} {count low high i : ℕ} (more : i < length bs) (s : Judging bs count low high i) where
-  here : text_from (dues count low high) (get_or bs i 0 ∷ drop (i + 1) bs) ≡ text bs
+module _ {bs : List ℕ} {d : Due} {i : ℕ} (more : i < length bs) (s : Judging bs d i) where
+  here : text_from (dues d.count d.low d.high) (get_or bs i 0 ∷ drop (i + 1) bs) ≡ text bs
   here = rw add-one (rw (drop-cons bs i 0 more) at s.all)
 
-  first : count ≡ 0 → text_from [] (get_or bs i 0 ∷ drop (i + 1) bs) ≡ text bs
-  first z = rw z at here
+  pub next_byte : (r : Due) → LeftDue d (get_or bs i 0) (Some r) → Judging bs r (i + 1)
+  next_byte r l = record { place = omega arith; all = sym (l.is (drop (i + 1) bs)) ∙ here }
 
-  next : (count ≡ 0 → ⊥) → both (within low high (get_or bs i 0)) (text_from (dues (count - 1) 0x80 0xBF) (drop (i + 1) bs)) ≡ text bs
-  next z = sym (at_next count low high (get_or bs i 0) (drop (i + 1) bs) z) ∙ here
-
-  pub first_byte : (c l h : ℕ) → count ≡ 0 → lead (get_or bs i 0) ≡ due (dues c l h) → Judging bs c l h (i + 1)
-  unfolding text_from
-  first_byte c l h z e = record { place = omega arith; all = rw e at (first z) }
-
-  pub no_first_byte : count ≡ 0 → lead (get_or bs i 0) ≡ never → false ≡ text bs
-  unfolding text_from
-  no_first_byte z e = rw e at (first z)
-
-  pub next_byte : (count ≡ 0 → ⊥) → low ≤ get_or bs i 0 → get_or bs i 0 ≤ high → Judging bs (count - 1) 0x80 0xBF (i + 1)
-  next_byte z l h =
-      record { place = omega arith; all = rw (le-leb low (get_or bs i 0) l, le-leb (get_or bs i 0) high h) at (next z) }
-
-  pub byte_below : (count ≡ 0 → ⊥) → get_or bs i 0 < low → false ≡ text bs
-  byte_below z l = rw (lt-leb low (get_or bs i 0) l) at (next z)
-
-  pub byte_above : (count ≡ 0 → ⊥) → low ≤ get_or bs i 0 → high < get_or bs i 0 → false ≡ text bs
-  byte_above z l h = rw (le-leb low (get_or bs i 0) l, lt-leb (get_or bs i 0) high h) at (next z)
+  pub other_byte : LeftDue d (get_or bs i 0) None → false ≡ text bs
+  other_byte l = sym (l.is (drop (i + 1) bs)) ∙ here

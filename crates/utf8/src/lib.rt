@@ -3,68 +3,65 @@
 
 ghost use Rattle.std.specs.Prelude.{◌≡◌};
 ghost use Rattle.utf8.specs.Walk.{text, lead};
-ghost use Rattle.utf8.specs.Row.{led_by};
+ghost use Rattle.utf8.specs.Row.{led_by, LeftDue};
 
-// What the first byte of a character calls for: a count of further bytes, and the lowest and the highest that the next
-// of them may be; or it begins no character.
+// What is due of a character: a count of further bytes, and the lowest and the highest that the next of them may be.
 #[derive(Clone, Copy)]
-pub enum Lead {
-    Due(u8, u8, u8),
-    Never,
+pub struct Due {
+    pub count: u8,
+    pub low: u8,
+    pub high: u8,
 }
 
-// What a byte calls for that begins a character.
-pub fn lead_of(b: u8) -> Lead
+// What a byte calls for that begins a character; none where it begins no character.
+pub fn lead_of(b: u8) -> Option<Due>
     ensures { result ≡ led_by (lead b) }
 {
     match b {
-        0x00..=0x7F => Lead::Due(0, 0x80, 0xBF),
-        0xC2..=0xDF => Lead::Due(1, 0x80, 0xBF),
-        0xE0 => Lead::Due(2, 0xA0, 0xBF),
-        0xE1..=0xEC => Lead::Due(2, 0x80, 0xBF),
-        0xED => Lead::Due(2, 0x80, 0x9F),
-        0xEE..=0xEF => Lead::Due(2, 0x80, 0xBF),
-        0xF0 => Lead::Due(3, 0x90, 0xBF),
-        0xF1..=0xF3 => Lead::Due(3, 0x80, 0xBF),
-        0xF4 => Lead::Due(3, 0x80, 0x8F),
-        _ => Lead::Never,
+        0x00..=0x7F => Some(Due::new(0, 0x80, 0xBF)),
+        0xC2..=0xDF => Some(Due::new(1, 0x80, 0xBF)),
+        0xE0 => Some(Due::new(2, 0xA0, 0xBF)),
+        0xE1..=0xEC => Some(Due::new(2, 0x80, 0xBF)),
+        0xED => Some(Due::new(2, 0x80, 0x9F)),
+        0xEE..=0xEF => Some(Due::new(2, 0x80, 0xBF)),
+        0xF0 => Some(Due::new(3, 0x90, 0xBF)),
+        0xF1..=0xF3 => Some(Due::new(3, 0x80, 0xBF)),
+        0xF4 => Some(Due::new(3, 0x80, 0x8F)),
+        _ => None,
     }
 }
 
-// Whether the bytes are UTF-8 text. `count` further bytes of a character are due, the next of them from `low` to `high`.
+impl Due {
+    fn new(count: u8, low: u8, high: u8) -> Due
+        ensures { result ≡ record { count = count; low = low; high = high } }
+    {
+        Due { count, low, high }
+    }
+
+    // What the byte leaves due that comes next; none where it isn't the one that is due.
+    pub fn after(self, b: u8) -> Option<Due>
+        ensures { LeftDue self b result }
+    {
+        if self.count == 0 {
+            return lead_of(b);
+        }
+        if b < self.low || self.high < b {
+            return None;
+        }
+        Some(Due::new(self.count - 1, 0x80, 0xBF))
+    }
+}
+
+// Whether the bytes are UTF-8 text.
 pub fn is_text(value: &[u8]) -> bool
     ensures { result ≡ text value.now }
 {
-    let mut count: u8 = 0;
-    let mut low: u8 = 0x80;
-    let mut high: u8 = 0xBF;
-    let mut i = 0;
-    while i < value.len() {
-        let b = value[i];
-        if count == 0 {
-            match lead_of(b) {
-                Lead::Due(due, from, to) => {
-                    count = due;
-                    low = from;
-                    high = to;
-                    i = i + 1;
-                }
-                Lead::Never => {
-                    return false;
-                }
-            }
-        } else {
-            if b < low {
-                return false;
-            }
-            if high < b {
-                return false;
-            }
-            count = count - 1;
-            low = 0x80;
-            high = 0xBF;
-            i = i + 1;
-        }
+    let mut due = Due::new(0, 0x80, 0xBF);
+    for b in value {
+        let Some(left) = due.after(*b) else {
+            return false;
+        };
+        due = left;
     }
-    count == 0
+    due.count == 0
 }

@@ -5,83 +5,64 @@ mod numbers;
 mod texts;
 mod uints;
 
-use telling::Told;
-use words::{Named, Numbers, Value, name_at, numbers_at, part, value_at};
+use output::Page;
+use words::Line;
 
-const NAMES: [u8; 127] =
-    *b"uint-read;uint-write;to-uint;from-uint;text-read;text-write;text-part;is-option;is-format;\
-    option-index;format-index;properties;";
+#[derive(Clone, Copy)]
+pub enum Request {
+    UintRead,
+    UintWrite,
+    ToUint,
+    FromUint,
+    TextRead,
+    TextWrite,
+    TextPart,
+    IsOption,
+    IsFormat,
+    OptionIndex,
+    FormatIndex,
+    Properties,
+}
 
-const UINT_READ: usize = 0;
-
-const UINT_WRITE: usize = 1;
-
-const TO_UINT: usize = 2;
-
-const FROM_UINT: usize = 3;
-
-const TEXT_READ: usize = 4;
-
-const TEXT_WRITE: usize = 5;
-
-const TEXT_PART: usize = 6;
-
-const IS_OPTION: usize = 7;
-
-const IS_FORMAT: usize = 8;
-
-const OPTION_INDEX: usize = 9;
-
-const FORMAT_INDEX: usize = 10;
-
-// Which of these requests a line is.
-pub fn named(line: &[u8]) -> Named {
-    name_at(line, 0, &NAMES)
+// Which of these requests a name is.
+pub fn named(name: &[u8]) -> Option<Request> {
+    match name {
+        b"uint-read" => Some(Request::UintRead),
+        b"uint-write" => Some(Request::UintWrite),
+        b"to-uint" => Some(Request::ToUint),
+        b"from-uint" => Some(Request::FromUint),
+        b"text-read" => Some(Request::TextRead),
+        b"text-write" => Some(Request::TextWrite),
+        b"text-part" => Some(Request::TextPart),
+        b"is-option" => Some(Request::IsOption),
+        b"is-format" => Some(Request::IsFormat),
+        b"option-index" => Some(Request::OptionIndex),
+        b"format-index" => Some(Request::FormatIndex),
+        b"properties" => Some(Request::Properties),
+        _ => None,
+    }
 }
 
 // Answers a request. Its value goes to the store, and what it writes to as much of the room as it names.
-pub fn answer(name: Named, line: &[u8], store: &mut [u8], room: &mut [u8]) -> Told {
-    let index = name.index;
-    let numbers = numbers_at(line, name.next);
-    let value = value_at(line, name.next, store);
-    let bytes = part(store, 0, value.length);
-    let size = room_of(index, numbers, value);
-    if room.len() < size {
-        return Told::no_request();
-    }
-    answer_in(index, numbers, value, bytes, &mut room[0..size])
-}
-
-// The room that a request names; 0 where it names none.
-fn room_of(index: usize, numbers: Numbers, value: Value) -> usize {
-    match index {
-        UINT_WRITE => numbers.second as usize,
-        FROM_UINT => numbers.first as usize,
-        TEXT_WRITE => value.number as usize,
-        _ => 0,
-    }
-}
-
-fn answer_in(index: usize, numbers: Numbers, value: Value, bytes: &[u8], room: &mut [u8]) -> Told {
-    match index {
-        UINT_WRITE => uints::uint_write(numbers, room),
-        FROM_UINT => uints::from_uint(numbers, room),
-        TEXT_WRITE => texts::text_write(value, bytes, room),
-        _ => answer_reading(index, numbers, value, bytes),
-    }
-}
-
-// Answers a request that writes nothing.
-fn answer_reading(index: usize, numbers: Numbers, value: Value, bytes: &[u8]) -> Told {
-    match index {
-        UINT_READ => uints::uint_read(value, bytes),
-        TO_UINT => uints::to_uint(value, bytes),
-        TEXT_READ => texts::text_read(value, bytes),
-        TEXT_PART => texts::text_part(value, bytes),
-        IS_OPTION => numbers::is_option(numbers),
-        IS_FORMAT => numbers::is_format(numbers),
-        OPTION_INDEX => numbers::option_index(numbers),
-        FORMAT_INDEX => numbers::format_index(numbers),
-        _ => numbers::properties(numbers),
+pub fn answer(
+    request: Request,
+    line: &mut Line,
+    store: &mut [u8],
+    room: &mut [u8],
+    page: &mut Page,
+) -> Option<()> {
+    match request {
+        Request::UintRead => uints::uint_read(line, store, page),
+        Request::UintWrite => uints::uint_write(line, room, page),
+        Request::ToUint => uints::to_uint(line, store, page),
+        Request::FromUint => uints::from_uint(line, room, page),
+        Request::TextRead => texts::text_read(line, store, page),
+        Request::TextWrite => texts::text_write(line, store, room, page),
+        Request::TextPart => texts::text_part(line, store, page),
+        Request::IsOption => numbers::is_option(line, page),
+        Request::IsFormat => numbers::is_format(line, page),
+        Request::OptionIndex => numbers::option_index(line, page),
+        Request::FormatIndex => numbers::format_index(line, page),
+        Request::Properties => numbers::properties(line, page),
     }
 }

@@ -1,64 +1,57 @@
 // Requests on the numbers of options and of content formats.
-use tables::Place;
-use telling::{NONE, PLACE, Told};
-use words::{Numbers, low16};
+use output::Page;
+use telling::write_truth;
+use words::Line;
 
-// Whether a request has one number, of at most two bytes.
-fn one(numbers: Numbers) -> bool {
-    numbers.count == 1 && numbers.first < 65536
+// Reads a number that ends a line.
+fn read_number(line: &mut Line) -> Option<u16> {
+    let number = line.number(b' ')?;
+    line.finished()?;
+    Some(number)
 }
 
 // is-option NUMBER
-pub fn is_option(numbers: Numbers) -> Told {
-    if !one(numbers) {
-        return Told::no_request();
-    }
-    match tables::option_index(low16(numbers.first)) {
-        Place::At(_) => Told::truth(true),
-        Place::Unlisted => Told::truth(false),
-    }
+pub fn is_option(line: &mut Line, page: &mut Page) -> Option<()> {
+    let number = read_number(line)?;
+    write_truth(page, tables::option_index(number).is_some());
+    Some(())
 }
 
 // is-format NUMBER
-pub fn is_format(numbers: Numbers) -> Told {
-    if !one(numbers) {
-        return Told::no_request();
-    }
-    Told::truth(tables::is_content_format(low16(numbers.first)))
+pub fn is_format(line: &mut Line, page: &mut Page) -> Option<()> {
+    let number = read_number(line)?;
+    write_truth(page, tables::is_content_format(number));
+    Some(())
 }
 
 // option-index NUMBER
-pub fn option_index(numbers: Numbers) -> Told {
-    if !one(numbers) {
-        return Told::no_request();
-    }
-    tell(tables::option_index(low16(numbers.first)))
+pub fn option_index(line: &mut Line, page: &mut Page) -> Option<()> {
+    let number = read_number(line)?;
+    write_index(page, tables::option_index(number));
+    Some(())
 }
 
 // format-index NUMBER
-pub fn format_index(numbers: Numbers) -> Told {
-    if !one(numbers) {
-        return Told::no_request();
-    }
-    tell(tables::content_format_index(low16(numbers.first)))
+pub fn format_index(line: &mut Line, page: &mut Page) -> Option<()> {
+    let number = read_number(line)?;
+    write_index(page, tables::content_format_index(number));
+    Some(())
 }
 
-fn tell(place: Place) -> Told {
-    match place {
-        Place::At(index) => Told::number(PLACE, index as u64),
-        Place::Unlisted => Told::word(NONE),
+fn write_index(page: &mut Page, index: Option<usize>) {
+    match index {
+        Some(index) => page.number(b"place ", index as u64),
+        None => page.text(b"none"),
     }
 }
 
 // properties NUMBER
-pub fn properties(numbers: Numbers) -> Told {
-    if !one(numbers) {
-        return Told::no_request();
-    }
-    let number = low16(numbers.first);
-    Told::truths(
-        register::is_critical(number),
-        register::is_unsafe(number),
-        register::is_no_cache_key(number),
-    )
+pub fn properties(line: &mut Line, page: &mut Page) -> Option<()> {
+    let number = read_number(line)?;
+    write_truth(page, register::is_critical(number));
+    page.byte(b' ');
+    write_truth(page, register::is_unsafe(number));
+    page.byte(b' ');
+    write_truth(page, register::is_no_cache_key(number));
+    Some(())
 }

@@ -1,32 +1,41 @@
 // Requests on texts.
-use option_value::Text;
-use telling::{TEXT, Tail, Told};
-use words::Value;
+use output::Page;
+use telling::{write_refused, write_written};
+use words::Line;
 
 // text-read HEX
-pub fn text_read(value: Value, bytes: &[u8]) -> Told {
-    if value.count != 0 {
-        return Told::no_request();
-    }
+pub fn text_read(line: &mut Line, store: &mut [u8], page: &mut Page) -> Option<()> {
+    let bytes = line.stored(store)?;
+    line.finished()?;
     match option_value::option_to_text(bytes) {
-        Text::Refused(why) => Told::refused(why),
-        Text::Valid => text_part(value, bytes),
+        Ok(()) => write_part(page, bytes),
+        Err(why) => write_refused(page, why),
     }
+    Some(())
 }
 
-// text-part HEX. The part is the whole text or nothing, so it stands at the start of the store.
-pub fn text_part(value: Value, bytes: &[u8]) -> Told {
-    if value.count != 0 {
-        return Told::no_request();
-    }
-    let text = option_value::text_part(bytes);
-    Told::tailed(TEXT, Tail::Stored(text.len()))
+// text-part HEX
+pub fn text_part(line: &mut Line, store: &mut [u8], page: &mut Page) -> Option<()> {
+    let bytes = line.stored(store)?;
+    line.finished()?;
+    write_part(page, bytes);
+    Some(())
+}
+
+fn write_part(page: &mut Page, bytes: &[u8]) {
+    page.hex(b"text ", option_value::text_part(bytes));
 }
 
 // text-write ROOM HEX
-pub fn text_write(value: Value, bytes: &[u8], room: &mut [u8]) -> Told {
-    if value.count != 1 {
-        return Told::no_request();
-    }
-    Told::written(option_value::option_from_text(bytes, room))
+pub fn text_write(
+    line: &mut Line,
+    store: &mut [u8],
+    room: &mut [u8],
+    page: &mut Page,
+) -> Option<()> {
+    let room = line.room(room)?;
+    let bytes = line.stored(store)?;
+    line.finished()?;
+    write_written(page, option_value::option_from_text(bytes, room), room);
+    Some(())
 }

@@ -1,103 +1,84 @@
 // Requests on uints, of the four widths and of a width that the request names.
-use option_value::{
-    OptionValueU8, OptionValueU16, OptionValueU32, OptionValueU64, ReadU8, ReadU16, ReadU32,
-    ReadU64, Uint,
-};
-use refusal::Written;
-use telling::{NUMBER, Told};
-use words::{Numbers, Value, low8, low16, low32};
+use option_value::{OptionValue, Uint, Width};
+use output::Page;
+use refusal::Refusal;
+use telling::{write_refused, write_written, write_zeros};
+use words::Line;
 
-// The largest number of a width in bytes; 0 for what is no width.
-fn most_of(width: u64) -> u64 {
-    match width {
-        1 => 255,
-        2 => 65535,
-        4 => 4294967295,
-        8 => 18446744073709551615,
-        _ => 0,
-    }
-}
-
-fn tell(uint: Uint) -> Told {
+fn write_uint(page: &mut Page, uint: Result<Uint, Refusal>) {
     match uint {
-        Uint::Number { number, zeros } => Told::number(NUMBER, number).padded(zeros),
-        Uint::Refused(why) => Told::refused(why),
+        Ok(uint) => {
+            page.number(b"number ", uint.number);
+            write_zeros(page, uint.zeros);
+        }
+        Err(why) => write_refused(page, why),
     }
 }
 
 // uint-read WIDTH HEX
-pub fn uint_read(value: Value, bytes: &[u8]) -> Told {
-    let width = value.number;
-    if value.count != 1 || most_of(width) == 0 {
-        return Told::no_request();
-    }
-    tell(read_uint(width, bytes))
+pub fn uint_read(line: &mut Line, store: &mut [u8], page: &mut Page) -> Option<()> {
+    let width: u8 = line.number(b' ')?;
+    let bytes = line.stored(store)?;
+    line.finished()?;
+    let uint = match width {
+        1 => read_as::<u8>(bytes),
+        2 => read_as::<u16>(bytes),
+        4 => read_as::<u32>(bytes),
+        8 => read_as::<u64>(bytes),
+        _ => return None,
+    };
+    write_uint(page, uint);
+    Some(())
 }
 
-fn read_uint(width: u64, bytes: &[u8]) -> Uint {
-    match width {
-        1 => match OptionValueU8::try_from(bytes) {
-            ReadU8::Value { value, zeros } => Uint::Number {
-                number: value.0 as u64,
-                zeros,
-            },
-            ReadU8::Refused(why) => Uint::Refused(why),
-        },
-        2 => match OptionValueU16::try_from(bytes) {
-            ReadU16::Value { value, zeros } => Uint::Number {
-                number: value.0 as u64,
-                zeros,
-            },
-            ReadU16::Refused(why) => Uint::Refused(why),
-        },
-        4 => match OptionValueU32::try_from(bytes) {
-            ReadU32::Value { value, zeros } => Uint::Number {
-                number: value.0 as u64,
-                zeros,
-            },
-            ReadU32::Refused(why) => Uint::Refused(why),
-        },
-        _ => match OptionValueU64::try_from(bytes) {
-            ReadU64::Value { value, zeros } => Uint::Number {
-                number: value.0,
-                zeros,
-            },
-            ReadU64::Refused(why) => Uint::Refused(why),
-        },
-    }
+fn read_as<W: Width>(bytes: &[u8]) -> Result<Uint, Refusal> {
+    let read = OptionValue::<W>::try_from(bytes)?;
+    Ok(Uint {
+        number: read.value.0.widened(),
+        zeros: read.zeros,
+    })
 }
 
 // to-uint WIDTH HEX
-pub fn to_uint(value: Value, bytes: &[u8]) -> Told {
-    if value.count != 1 {
-        return Told::no_request();
-    }
-    tell(option_value::option_to_uint(bytes, value.number as usize))
+pub fn to_uint(line: &mut Line, store: &mut [u8], page: &mut Page) -> Option<()> {
+    let width = line.number(b' ')?;
+    let bytes = line.stored(store)?;
+    line.finished()?;
+    write_uint(page, option_value::option_to_uint(bytes, width));
+    Some(())
 }
 
 // uint-write WIDTH ROOM NUMBER
-pub fn uint_write(numbers: Numbers, room: &mut [u8]) -> Told {
-    let width = numbers.first;
-    let number = numbers.third;
-    if numbers.count != 3 || most_of(width) < number || most_of(width) == 0 {
-        return Told::no_request();
-    }
-    Told::written(write_uint(width, number, room))
+pub fn uint_write(line: &mut Line, room: &mut [u8], page: &mut Page) -> Option<()> {
+    let width: u8 = line.number(b' ')?;
+    let room = line.room(room)?;
+    let written = match width {
+        1 => OptionValue(read_last::<u8>(line)?).into_bytes(room),
+        2 => OptionValue(read_last::<u16>(line)?).into_bytes(room),
+        4 => OptionValue(read_last::<u32>(line)?).into_bytes(room),
+        8 => OptionValue(read_last::<u64>(line)?).into_bytes(room),
+        _ => return None,
+    };
+    write_written(page, written, room);
+    Some(())
 }
 
-fn write_uint(width: u64, number: u64, room: &mut [u8]) -> Written {
-    match width {
-        1 => OptionValueU8(low8(number)).into_bytes(room),
-        2 => OptionValueU16(low16(number)).into_bytes(room),
-        4 => OptionValueU32(low32(number)).into_bytes(room),
-        _ => OptionValueU64(number).into_bytes(room),
-    }
+// Reads a number that ends a line.
+fn read_last<N: TryFrom<u64>>(line: &mut Line) -> Option<N>
+where
+    N::Error: Drop,
+    N: Drop,
+{
+    let number = line.number(b' ')?;
+    line.finished()?;
+    Some(number)
 }
 
 // from-uint ROOM NUMBER
-pub fn from_uint(numbers: Numbers, room: &mut [u8]) -> Told {
-    if numbers.count != 2 {
-        return Told::no_request();
-    }
-    Told::written(option_value::option_from_uint(numbers.second, room))
+pub fn from_uint(line: &mut Line, room: &mut [u8], page: &mut Page) -> Option<()> {
+    let room = line.room(room)?;
+    let number = line.number(b' ')?;
+    line.finished()?;
+    write_written(page, option_value::option_from_uint(number, room), room);
+    Some(())
 }

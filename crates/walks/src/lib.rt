@@ -1,165 +1,154 @@
-// How far a pass over an input has come, message by message through a window.
+// A pass over an input of any length, piece by piece through one window. A piece that waits for its rest goes to the front of the
+// window, and what follows is read behind it, so that each is whole when its turn comes; nothing else bounds the input.
 #![tactic(auto)]
 
-use output::Console;
-use refusal::{Outcome, Refusal};
-use reports::{flushed, spill};
+use moving::move_to_front;
+use refusal::Refusal;
+use reports::{Failure, Numbered, Page, progress};
+use reread::Input;
+use std::fmt;
+use std::fmt::{Display, Formatter};
 
+// Why an input is refused, and which message it is refused for, from 1.
+#[derive(Clone, Copy)]
+pub struct Rejection {
+    pub why: Refusal,
+    pub message: u64,
+}
+
+// refused 19 BadFreeze, message 2
+impl Display for Rejection {
+    fn fmt<W: fmt::Write>(&self, f: &mut Formatter<W>) -> fmt::Result {
+        let named = Numbered(self.why);
+        let message = self.message;
+        write!(f, "{named}, message {message}")
+    }
+}
+
+// What comes next in an input.
+#[derive(Clone, Copy)]
+pub enum Piece {
+    // The window may hold only a part of it.
+    Cut,
+    // So many bytes that are no message.
+    Skipped(usize),
+    // A message of so many bytes, and whether its datagram is good: one that is bad decides only where the rest is good.
+    Message(usize, Result<(), Refusal>),
+    // No message. The pass ends here.
+    Refused(Refusal),
+}
+
+// What is done with an input.
+pub trait Work {
+    // What stands where the rest of the window begins, and whatever is to be put on the page of it. The rest has a byte at least, and
+    // all of the input that is left where that ends with it.
+    fn take(&mut self, rest: &[u8], ended: bool, page: &mut Page) -> Piece;
+
+    // What is said of so many windows of 64 KiB.
+    fn said(&self) -> &'static str {
+        "passed over"
+    }
+}
+
+// How far a pass has come.
 #[derive(Clone, Copy)]
 pub struct Walk {
     // How many messages were passed.
     pub messages: u64,
-    // Why the stream is refused, if it is, and which message it is refused for, from 1.
-    pub outcome: Outcome,
-    pub refused: u64,
-    // How many bytes were written, and how many stand in the output.
-    pub written: u64,
-    pub place: usize,
-    // Where the next message stands in the window.
-    pub waiting: usize,
-    // Whether the pass goes on.
-    pub more: bool,
-    // Whether reading or writing failed, of which standard error has a line.
-    pub failed: bool,
+    pub rejected: Option<Rejection>,
+    // Where the next piece stands in the window, and whether the pass goes on.
+    at: usize,
+    more: bool,
 }
 
 impl Walk {
-    pub fn start() -> Walk {
+    fn start() -> Walk {
         Walk {
             messages: 0,
-            outcome: Outcome::Done,
-            refused: 0,
-            written: 0,
-            place: 0,
-            waiting: 0,
+            rejected: None,
+            at: 0,
             more: true,
-            failed: false,
         }
     }
 
-    // The pass ends, since reading or writing failed.
-    pub fn failing(self) -> Walk {
-        let outcome = self.outcome;
+    // So many bytes on.
+    fn on(self, length: usize) -> Walk {
         Walk {
-            messages: self.messages,
-            outcome,
-            refused: self.refused,
-            written: self.written,
-            place: 0,
-            waiting: self.waiting,
-            more: false,
-            failed: true,
+            at: self.at.saturating_add(length),
+            ..self
         }
-    }
-
-    // The next message stands at a position of the window.
-    pub fn at(self, waiting: usize, more: bool) -> Walk {
-        let outcome = self.outcome;
-        Walk {
-            messages: self.messages,
-            outcome,
-            refused: self.refused,
-            written: self.written,
-            place: self.place,
-            waiting,
-            more,
-            failed: self.failed,
-        }
-    }
-
-    // What waited stands at the start of the window.
-    pub fn starting(self) -> Walk {
-        self.at(0, self.more)
-    }
-
-    // What waits stands at the start of the window again, and more comes unless the input has ended.
-    pub fn leaving(self, waiting: usize, ended: bool) -> Walk {
-        self.at(waiting, self.more && !ended)
     }
 
     // The pass ends at the next message, which is none.
-    pub fn refusing(self, why: Refusal) -> Walk {
+    fn refusing(self, why: Refusal) -> Walk {
+        let message = self.messages.wrapping_add(1);
         Walk {
-            messages: self.messages,
-            outcome: Outcome::Refused(why),
-            refused: after(self.messages, 1),
-            written: self.written,
-            place: self.place,
-            waiting: self.waiting,
+            rejected: Some(Rejection { why, message }),
             more: false,
-            failed: self.failed,
+            ..self
         }
     }
 
-    // The next message is passed, for which so many bytes were put; its datagram decides, if none before it has.
-    pub fn passing(self, outcome: Outcome, next: usize, place: usize) -> Walk {
-        let first = self.outcome;
-        let message = after(self.messages, 1);
-        let bad = self.refused != 0;
+    // The next message is passed; its datagram decides, if none before it has.
+    fn passing(self, judged: Result<(), Refusal>) -> Walk {
+        let message = self.messages.wrapping_add(1);
+        let rejected = match judged {
+            Ok(()) => None,
+            Err(why) => Some(Rejection { why, message }),
+        };
         Walk {
             messages: message,
-            outcome: if bad { first } else { outcome },
-            refused: if bad {
-                self.refused
-            } else {
-                number_of(outcome, message)
-            },
-            written: self.written,
-            place,
-            waiting: next,
-            more: self.more,
-            failed: self.failed,
-        }
-    }
-
-    // The output is written once half of it is full.
-    pub fn spilling(self, console: Console, out: &[u8]) -> Walk {
-        let place = self.place;
-        let outcome = self.outcome;
-        let spilled = spill(console, out, place);
-        Walk {
-            messages: self.messages,
-            outcome,
-            refused: self.refused,
-            written: if spilled.place == 0 {
-                after(self.written, place as u64)
-            } else {
-                self.written
-            },
-            place: spilled.place,
-            waiting: self.waiting,
-            more: self.more && !spilled.failed,
-            failed: self.failed || spilled.failed,
-        }
-    }
-
-    // The rest of the output is written.
-    pub fn finished(self, console: Console, out: &[u8]) -> Walk {
-        let place = self.place;
-        let outcome = self.outcome;
-        let failed = !flushed(console, out, place);
-        Walk {
-            messages: self.messages,
-            outcome,
-            refused: self.refused,
-            written: after(self.written, place as u64),
-            place: 0,
-            waiting: self.waiting,
-            more: false,
-            failed: self.failed || failed,
+            rejected: self.rejected.or(rejected),
+            ..self
         }
     }
 }
 
-// The number of a message whose datagram is bad, or else 0.
-fn number_of(outcome: Outcome, message: u64) -> u64 {
-    match outcome {
-        Outcome::Done => 0,
-        Outcome::Refused(_) => message,
+// Passes over the whole input from its beginning. What is made of it goes to the page, which is written as it fills, and at the end.
+pub fn pass<W: Work>(
+    rt: &HostRuntime,
+    input: &Input,
+    work: &mut W,
+    window: &mut [u8],
+    page: &mut Page,
+) -> Result<Walk, Failure> {
+    input.rewind()?;
+    let mut walk = Walk::start();
+    let mut waiting = 0;
+    for windows in 0..u64::MAX {
+        let filled = input.fill(window, waiting)?;
+        let all = &window[..filled.count.min(window.len())];
+        walk = take_all(work, Walk { at: 0, ..walk }, all, filled.ended, page)?;
+        progress(rt, work.said(), windows + 1);
+        if filled.ended || !walk.more {
+            break;
+        }
+        waiting = move_to_front(window, walk.at, filled.count);
     }
+    page.finish()?;
+    Ok(walk)
 }
 
-// So many more.
-fn after(count: u64, more: u64) -> u64 {
-    std::num::wrapping_add_u64(count, more)
+// Takes the pieces that are whole in the window, of which each has a byte at least.
+fn take_all<W: Work>(
+    work: &mut W,
+    start: Walk,
+    window: &[u8],
+    ended: bool,
+    page: &mut Page,
+) -> Result<Walk, Failure> {
+    let mut walk = start;
+    for _ in 0..window.len() {
+        if !walk.more || window.len() <= walk.at {
+            break;
+        }
+        walk = match work.take(&window[walk.at..], ended, page) {
+            Piece::Cut => break,
+            Piece::Skipped(length) => walk.on(length),
+            Piece::Message(length, judged) => walk.on(length).passing(judged),
+            Piece::Refused(why) => walk.refusing(why),
+        };
+        page.spill()?;
+    }
+    Ok(walk)
 }

@@ -6,10 +6,10 @@ use mathlib.Core.List.{List}
 use native.Mathlib.Nat.{zero-add}
 use native.Mathlib.Omega.{arith}
 use lib.ListN.{length}
+use Rattle.std.specs.Prelude.{Result, Ok}
 use Rattle.ground.specs.Choice.{pick}
 use Rattle.refusal.specs.Answer.{Answer, given, refused, onward, written}
-use Rattle.refusal.specs.declared.Written.{Written}
-use Rattle.refusal.specs.declared.Written.TheVariants.{Length}
+use Rattle.refusal.specs.declared.Refusal.{Refusal}
 use Rattle.placing.specs.Put.{Put}
 use Rattle.packet.specs.Packet.{Stores}
 use Rattle.judging.specs.Judge.{lengths_of, is_too_long, bad_packet}
@@ -36,7 +36,7 @@ writing_measured strict limit room s p =
 
 module _ (strict : Bool) (limit : Limit) (p : Packet) (s : Stores) (old : List ℕ) where
   -- A refusal leaves the output as it was.
-  pub refuses : (r : Written) (k : ℕ) → written r ≡ refused k → measured strict limit (length old) (lengths_of s) p ≡ refused k → ToBytes strict limit p s old r old
+  pub refuses : (r : Result ℕ Refusal) (k : ℕ) → written r ≡ refused k → measured strict limit (length old) (lengths_of s) p ≡ refused k → ToBytes strict limit p s old r old
   refuses r k w e = let a = writing_measured strict limit (length old) s p ∙ e in record { answer = w ∙ sym a; output = rw a }
 
   module _ (n : ℕ) (e : measured strict limit (length old) (lengths_of s) p ≡ given n) where
@@ -51,7 +51,7 @@ module _ (strict : Bool) (limit : Limit) (p : Packet) (s : Stores) (old : List �
     roomy = (fits.good, omega (arith, fits.within, same))
 
     -- So a message that was put is one that was written.
-    pub writes : (r : ℕ) (new : List ℕ) → Put old 0 (bytes_written strict s p) r new → ToBytes strict limit p s old (Length r) new
+    pub writes : (r : ℕ) (new : List ℕ) → Put old 0 (bytes_written strict s p) r new → ToBytes strict limit p s old (Ok r) new
     writes r new q =
         let a = writing_measured strict limit (length old) s p ∙ (e ∙ ap given (same ∙ sym (q.next ∙ zero-add (length (bytes_written strict s p))))) in
         record { answer = sym a; output = rw a q.out }

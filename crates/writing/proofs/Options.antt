@@ -7,12 +7,13 @@ use native.Mathlib.Omega.{arith}
 use lib.ListN.{length, drop, length-append, length-take}
 use lib.Dec.{ltb}
 use borrow.Author.Tests.{ltb-false}
+use Rattle.std.specs.Prelude.{Result}
 use Rattle.rfc.specs.Message.{option_layout, options_layout}
 use Rattle.ground.proofs.Choice.{on_le, neither}
 use Rattle.placing.specs.Put.{Put}
 use Rattle.placing.proofs.Puts.{put_none, put_length, put_put}
 use Rattle.refusal.specs.Answer.{given, written}
-use Rattle.refusal.specs.declared.Written.{Written}
+use Rattle.refusal.specs.declared.Refusal.{Refusal}
 use Rattle.laying.specs.Laying.{laid_option, LaysOption}
 use Rattle.laying.proofs.Laid.{option_laid, lays_put}
 use Rattle.packet.specs.Packet.{Stores, store_of, bytes_in, value_of}
@@ -65,7 +66,7 @@ module _ (s : Stores) (rs : List OptionRecord) (old : List ℕ) (from : ℕ) whe
       pub option_given : laid_option before (option_of s r) (length out) next ≡ given (length (option_layout before (option_of s r)))
       option_given = option_laid before (option_of s r) (length out) next rises short room
 
-      pub turn : (piece : Written) (n : ℕ) (new : List ℕ) → LaysOption before (option_of s r) next out piece new → written piece ≡ given n → Putting s rs old from new r.number (next + n) (i + 1)
+      pub turn : (piece : Result ℕ Refusal) (n : ℕ) (new : List ℕ) → LaysOption before (option_of s r) next out piece new → written piece ≡ given n → Putting s rs old from new r.number (next + n) (i + 1)
       turn piece n new l e =
           let p = lays_put _ next _ out piece n new option_given l e in
           record {

@@ -6,9 +6,10 @@ use mathlib.Core.List.{List}
 use native.Mathlib.Nat.{zero-add}
 use native.Mathlib.Omega.{arith}
 use lib.ListN.{length}
+use Rattle.std.specs.Prelude.{Result}
 use Rattle.rfc.specs.Message.{Message, payload_layout}
 use Rattle.refusal.specs.Answer.{given, written}
-use Rattle.refusal.specs.declared.Written.{Written}
+use Rattle.refusal.specs.declared.Refusal.{Refusal}
 use Rattle.placing.specs.Put.{Put}
 use Rattle.placing.proofs.Puts.{put_length, put_put}
 use Rattle.packet.specs.Packet.{Stores, records_of}
@@ -46,7 +47,7 @@ module _ (strict : Bool) (s : Stores) (p : Packet) (old : List ℕ) (e : bad_pac
       (omega (arith, range_exactly s p.token sound.token, sound.token_length))
       (omega (arith, parts, head_length p.header message.token))
 
-  module _ (piece : Written) (k : ℕ) (mid : List ℕ) (l : LaysHeader p.header message.token old piece mid) (w : written piece ≡ given k) where
+  module _ (piece : Result ℕ Refusal) (k : ℕ) (mid : List ℕ) (l : LaysHeader p.header message.token old piece mid) (w : written piece ≡ given k) where
     head : Put old 0 (head_layout p.header message.token) k mid
     head = rw (zero-add k) at (lays_put _ 0 _ old piece k mid head_given l w)
 
@@ -71,7 +72,7 @@ module _ (strict : Bool) (s : Stores) (p : Packet) (old : List ℕ) (e : bad_pac
       last_given = laid_room (length out) next (payload_layout message.payload) last_room
 
       -- And all is put.
-      pub whole : (final : Written) (n : ℕ) (new : List ℕ) → LaysPayload message.payload next out final new → written final ≡ given n → Put old 0 (bytes_written strict s p) (next + n) new
+      pub whole : (final : Result ℕ Refusal) (n : ℕ) (new : List ℕ) → LaysPayload message.payload next out final new → written final ≡ given n → Put old 0 (bytes_written strict s p) (next + n) new
       whole final n new m v =
           rw (sym (layout_pieces p.header message.token message.options message.payload))
           (put_put _ _ _ _ _ _ _ _ head (put_put _ _ _ _ _ _ _ _ o (lays_put _ next _ out final n new last_given m v)))

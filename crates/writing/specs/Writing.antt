@@ -1,10 +1,10 @@
 -- Writing a packet, plain and strict: its bytes, the order of refusals, and the promise of every writer.
-use Rattle.std.specs.Prelude.{ℕ, ◌≡◌, Bool, List, length}
+use Rattle.std.specs.Prelude.{ℕ, ◌≡◌, Bool, List, length, Result}
 use Rattle.ground.specs.Choice.{pick}
 use Rattle.ground.specs.Part.{Bytes}
 use Rattle.rfc.specs.Message.{layout}
 use Rattle.refusal.specs.Answer.{Answer, refused, onward, written, fitted, after}
-use Rattle.refusal.specs.declared.Written.{Written}
+use Rattle.refusal.specs.declared.Refusal.{Refusal}
 use Rattle.packet.specs.Packet.{Stores}
 use Rattle.packet.specs.Meaning.{meaning}
 use Rattle.packet.specs.declared.Packet.{Packet}
@@ -35,7 +35,7 @@ writing strict limit room s p =
     (onward (strictly strict p) (λ _. limited limit (counted strict p) (fitted room (bytes_written strict s p)))))
 
 -- What every writer promises, each in its mode and at its limit, of its answer and of the output that is lent.
-pub record ToBytes (strict : Bool) (limit : Limit) (p : Packet) (s : Stores) (old : List ℕ) (r : Written) (new : List ℕ) : Type 0 where
+pub record ToBytes (strict : Bool) (limit : Limit) (p : Packet) (s : Stores) (old : List ℕ) (r : Result ℕ Refusal) (new : List ℕ) : Type 0 where
   pub answer : written r ≡ writing strict limit (length old) s p
   pub output : new ≡ after (writing strict limit (length old) s p) 0 (bytes_written strict s p) old
 

@@ -4,7 +4,6 @@ use mathlib.Core.Path.{◌≡◌}
 use native.Mathlib.Omega.{arith}
 use Rattle.block_value.specs.Size.{Floor, power_up_to, exponent_of}
 use Rattle.block_value.proofs.Powers.{one_floor, power_floor, power_bound}
-use borrow.Author.Rules.{rules}
 use Rattle.block_value.proofs.exponent_of.Goals as goal
 
 -- The power that was found is the one that the definition computes.

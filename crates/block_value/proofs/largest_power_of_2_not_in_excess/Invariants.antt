@@ -1,9 +1,6 @@
 -- `largest_power_of_2_not_in_excess` halves until 1 is left: the rest is the target over 2 to the power so far.
-use Prim.Native.Nat.{ℕ, ◌+◌, ◌/◌, ◌^◌, ◌<◌, ◌≤◌}
-use mathlib.Core.Path.{◌≡◌, ap, sym, ◌∙◌}
-use native.Mathlib.Omega.{arith}
-use lib.Pow.{shr-shr}
-use Rattle.block_value.proofs.Powers.{halved}
+use Prim.Native.Nat.{◌+◌, ◌/◌, ◌^◌, ◌<◌, ◌≤◌}
+use mathlib.Core.Path.{◌≡◌}
 use Rattle.block_value.proofs.largest_power_of_2_not_in_excess.Given as goal
 
 abbrev pub invariant-loop-rest : goal.invariant-loop-rest

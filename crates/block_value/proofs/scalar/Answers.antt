@@ -5,7 +5,6 @@ use native.Mathlib.Omega.{arith}
 use mir.Val.{bool_byte}
 use Rattle.rfc.specs.Block.{bit, block_number}
 use Rattle.rfc.proofs.Block.{bit_small}
-use borrow.Author.Rules.{rules}
 use Rattle.block_value.proofs.scalar.Goals as goal
 
 -- A cast of M gives its bit.

@@ -14,9 +14,9 @@ returns-then-len-gt-MAX_STORE c = accepted_long _ (rw gathered_length c.if-len-g
 pub returns-then-len-lt4 : goal.returns-then-len-lt4
 returns-then-len-lt4 c = accepted_short _ (rw gathered_length c.if-len-lt4.true) ∙ judged_bytes _ _ _ _ (sym c.past.ensures ∙ c.if-past.false)
 
-pub opened-requires : goal.opened-requires
-opened-requires c =
-    ((c.if-len-gt-MAX_STORE.false, past_not _ _ _ _ (omega (arith, c.if-len-lt4.false)) (sym c.past.ensures ∙ c.if-past.false)), c.if-len-lt4.false)
+pub invariant_of-opened : goal.invariant_of-opened
+invariant_of-opened c =
+    record { lies = (c.if-len-gt-MAX_STORE.false, past_not _ _ _ _ (omega (arith, c.if-len-lt4.false)) (sym c.past.ensures ∙ c.if-past.false)) }
 
 pub returns : goal.returns
 returns c = c.opened.ensures ∙ judged_bytes _ _ _ _ (sym c.past.ensures ∙ c.if-past.false)

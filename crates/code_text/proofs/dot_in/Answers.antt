@@ -1,9 +1,5 @@
 -- `dot_in`: the first dot of the text is the first of what is left, counted from there.
-use Prim.Native.Nat.{◌≤◌, ◌+◌, ◌-◌}
-use mathlib.Core.Path.{◌≡◌}
 use native.Mathlib.Omega.{arith}
-use lib.ListN.{length, drop}
-use Rattle.code_text.specs.CodeText.{dot_in}
 use Rattle.code_text.proofs.CodeText.{dot_here, dot_past, dot_end}
 use Rattle.code_text.proofs.dot_in.Goals as goal
 

@@ -1,7 +1,6 @@
 -- `numeral`: a plus sign is passed over, and the rest is digits.
 use mathlib.Core.Path.{sym, ◌∙◌}
 use native.Mathlib.Omega.{arith}
-use borrow.Author.Rules.{rules}
 use Rattle.code_text.proofs.CodeText.{rest, numeral_none, numeral_plus, numeral_plain}
 use Rattle.code_text.proofs.numeral.Goals as goal
 

@@ -10,7 +10,7 @@ use Rattle.compacting.proofs.gather.Goals as goal
 pub loop-i-preserved : goal.loop-i-preserved
 loop-i-preserved c =
     let p = c.args.packet in
-    (omega arith, gather_turn _ _ _ _ _ _ _ c.loop-i.invariant.1 _ (left p.options p.count c.loop-i.i (omega (arith, length-take p.count p.options))) _ _ (rw c.value.ensures.result_value at c.put_bytes-next-in-loop-i.ensures))
+    (c.loop-i.invariant.0, gather_turn _ _ _ _ _ _ _ c.loop-i.invariant.1 _ (left p.options p.count c.loop-i.i (omega (arith, length-take p.count p.options))) _ _ (rw c.value.ensures.result_value at c.put_bytes-next-in-loop-i.ensures))
 
 pub returns : goal.returns
 returns c =

@@ -1,7 +1,6 @@
 -- `sent_end`: one test after the other.
 use borrow.Author.Tests.{le-leb, lt-leb, eq-eqb, ne_eqb}
 use Rattle.ffi.specs.Copied.{sent_end}
-use borrow.Author.Rules.{rules}
 use Rattle.ffi.proofs.sent_end.Goals as goal
 
 pub returns-then-datagram-payload : goal.returns-then-datagram-payload

@@ -18,7 +18,7 @@ pub bounds-numbers-10 : goal.bounds-numbers-10
 bounds-numbers-10 c = omega (arith, long_enough _ (sym c.if-cut_short.ensures))
 
 pub loop-i-init : goal.loop-i-init
-loop-i-init c = let e = long_enough _ (sym c.if-cut_short.ensures) in ((omega arith, e.1, e.2, refl), refl, start _ _)
+loop-i-init c = let e = long_enough _ (sym c.if-cut_short.ensures) in ((e.1, e.2, refl), refl, start _ _)
 
 pub returns-then-bad_next : goal.returns-then-bad_next
 returns-then-bad_next c = next_bad _ _ _ _ _ c.loop-i.invariant.2 c.loop-i-test.true (sym c.if-bad_next.ensures)
@@ -38,7 +38,7 @@ loop-i-preserved c =
     let k = c.loop-i in
     let l = c.args.numbers.now in
     let f = next_good _ _ _ _ (sym c.if-bad_next.ensures) in (
-      (omega arith, k.invariant.0.1, k.invariant.0.2, k.invariant.0.3),
+      k.invariant.0,
       good_more _ k.i k.invariant.1 f.0,
       rw c.size_after-size.ensures (turn _ _ _ _ _ k.invariant.2 _ (here l _ c.loop-i-test.true) f.1 (omega (arith, used l))),
     )

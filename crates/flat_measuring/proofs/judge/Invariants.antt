@@ -1,5 +1,5 @@
 -- `judge`: one walk over the records judges and counts them.
-use Prim.Native.Nat.{◌+◌, ◌-◌, ◌*◌, ◌≤◌}
+use Prim.Native.Nat.{◌+◌, ◌*◌, ◌≤◌}
 use mathlib.Core.Path.{◌≡◌}
 use mathlib.Core.Bool.{false}
 use lib.ListN.{length, get_or}
@@ -9,7 +9,4 @@ use Rattle.unflat.specs.Unflat.{bad_numbers, packet_in}
 use Rattle.flat_measuring.proofs.judge.Given as goal
 
 abbrev pub invariant-loop-i : goal.invariant-loop-i
-invariant-loop-i l = ((l.i ≤ l.count) × (l.count ≤ 128) × (11 + 4 * l.count ≤ length l.numbers) × (l.count ≡ get_or l.numbers 10 0)) × (bad_numbers l.numbers l.i ≡ false) × Judging l.lengths (records_of (packet_in l.numbers)) l.before l.size l.i
-
-abbrev pub decreases-loop-i : goal.decreases-loop-i
-decreases-loop-i l = l.count - l.i
+invariant-loop-i l = ((l.count ≤ 128) × (11 + 4 * l.count ≤ length l.numbers) × (l.count ≡ get_or l.numbers 10 0)) × (bad_numbers l.numbers l.i ≡ false) × Judging l.lengths (records_of (packet_in l.numbers)) l.before l.size l.i

@@ -1,7 +1,9 @@
 -- `put_message`: the parts of the message, one after the other.
-use mathlib.Core.Path.{◌∙◌}
+use mathlib.Core.Path.{ap, ◌∙◌}
 use native.Mathlib.Omega.{arith}
-use Rattle.packet.specs.Packet.{stores}
+use Rattle.refusal.specs.Answer.{written}
+use Rattle.packet.specs.Packet.{held}
+use Rattle.laying.proofs.Laid.{is_laid}
 use Rattle.flat_measuring.proofs.Places.{places}
 use Rattle.flat_writing.proofs.Message.{head_fits, options_fit, payload_fits, message_put}
 use Rattle.flat_writing.proofs.put_message.Goals as goal
@@ -19,19 +21,19 @@ pub part-token-requires : goal.part-token-requires
 part-token-requires c = (places _ _ c.requires.0).token
 
 pub put_head-first-requires : goal.put_head-first-requires
-put_head-first-requires c = let a = c.args in head_fits a.strict (stores a.datagram.now a.edits.now) a.numbers.now a.out.now c.requires.0 c.requires.1 _ c.part-token.ensures
+put_head-first-requires c = let a = c.args in head_fits a.strict (held a.stores) a.numbers.now a.out.now c.requires.0 c.requires.1 _ c.part-token.ensures
 
 pub put_options-next-requires : goal.put_options-next-requires
 put_options-next-requires c = let a = c.args in
-    let f = options_fit a.strict (stores a.datagram.now a.edits.now) a.numbers.now a.out.now c.requires.0 c.requires.1 _ c.part-token.ensures _ _ c.put_head-first.ensures in
+    let f = options_fit a.strict (held a.stores) a.numbers.now a.out.now c.requires.0 c.requires.1 _ c.part-token.ensures _ _ c.put_head-first.ensures in
     (c.requires.0, omega (arith, f.0, c.requires.2), omega (arith, f.1, c.requires.2))
 
-pub taken-requires : goal.taken-requires
-taken-requires c =
+pub unwrap-requires : goal.unwrap-requires
+unwrap-requires c =
     let a = c.args in
-    (_, c.put_payload.ensures.answer ∙ payload_fits a.strict (stores a.datagram.now a.edits.now) a.numbers.now a.out.now c.requires.0 c.requires.1 _ c.part-token.ensures _ _ c.put_head-first.ensures _ _ (rw c.requires.2 at c.put_options-next.ensures) _ c.sent_payload-payload.ensures)
+    is_laid _ _ (c.put_payload.ensures.answer ∙ payload_fits a.strict (held a.stores) a.numbers.now a.out.now c.requires.0 c.requires.1 _ c.part-token.ensures _ _ c.put_head-first.ensures _ _ (rw c.requires.2 at c.put_options-next.ensures) _ c.sent_payload-payload.ensures)
 
 pub returns : goal.returns
 returns c =
     let a = c.args in
-    message_put a.strict (stores a.datagram.now a.edits.now) a.numbers.now a.out.now c.requires.0 c.requires.1 _ c.part-token.ensures _ _ c.put_head-first.ensures _ _ (rw c.requires.2 at c.put_options-next.ensures) _ c.sent_payload-payload.ensures _ _ _ c.put_payload.ensures c.taken.ensures
+    message_put a.strict (held a.stores) a.numbers.now a.out.now c.requires.0 c.requires.1 _ c.part-token.ensures _ _ c.put_head-first.ensures _ _ (rw c.requires.2 at c.put_options-next.ensures) _ c.sent_payload-payload.ensures _ _ _ c.put_payload.ensures (ap written c.unwrap.ensures)

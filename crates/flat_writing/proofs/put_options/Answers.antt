@@ -17,7 +17,7 @@ pub loop-i-init : goal.loop-i-init
 loop-i-init c =
     let p = places _ _ c.requires.0 in
     let g = good _ _ c.requires.0.packet in
-    ((omega arith, p.count, p.records, refl), start _ _ _ _ _ c.requires.1 c.requires.2 g.ordered g.values)
+    ((p.count, p.records, refl), start _ _ _ _ _ c.requires.1 c.requires.2 g.ordered g.values)
 
 pub overflow_sub-delta : goal.overflow_sub-delta
 overflow_sub-delta c =
@@ -34,7 +34,7 @@ pub loop-i-preserved : goal.loop-i-preserved
 loop-i-preserved c =
     let l = c.loop-i in
     let t = c.loop-i-test.true in
-    ((omega arith, l.invariant.0.1, l.invariant.0.2, l.invariant.0.3), turn _ _ _ _ _ c.requires.1 c.requires.2 _ _ _ _ l.invariant.1 _ (here _ _ t) _ c.store_of-store.ensures _ _ c.put_option_in-next.ensures)
+    (l.invariant.0, turn _ _ _ _ _ c.requires.1 c.requires.2 _ _ _ _ l.invariant.1 _ (here _ _ t) _ c.store_of-store.ensures _ _ c.put_option_in-next.ensures)
 
 pub returns : goal.returns
 returns c =

@@ -12,7 +12,7 @@ bounds-numbers-2 c = omega (arith, (places _ _ c.requires).head)
 
 pub returns-then-drops : goal.returns-then-drops
 unfolding bytes_in
-returns-then-drops c = rw (sym c.drops.ensures ∙ c.if-drops.true, le-leb 0 (length c.args.datagram.now) (omega arith))
+returns-then-drops c = rw (sym c.drops.ensures ∙ c.if-drops.true, le-leb 0 (length c.args.stores.datagram.now) (omega arith))
 
 pub bounds-numbers-7 : goal.bounds-numbers-7
 bounds-numbers-7 c = omega (arith, (places _ _ c.requires).head)

@@ -4,8 +4,8 @@ use mathlib.Core.Path.{◌≡◌}
 use Rattle.framing.specs.Judging.{options_judged}
 use Rattle.framing.proofs.judge_options.Given as goal
 
-abbrev pub invariant-loop-e : goal.invariant-loop-e
-invariant-loop-e l = options_judged l.rest 128 0 0 ≡ options_judged l.rest (128 - l.count) l.number l.idx
+abbrev pub invariant-loop-marked : goal.invariant-loop-marked
+invariant-loop-marked l = options_judged l.rest 128 0 0 ≡ options_judged l.rest (128 - l.count) l.number l.idx
 
-abbrev pub decreases-loop-e : goal.decreases-loop-e
-decreases-loop-e l = 128 - l.count
+abbrev pub decreases-loop-marked : goal.decreases-loop-marked
+decreases-loop-marked l = 128 - l.count

@@ -20,15 +20,14 @@ returns-then-is_known c =
     is_duplicate _ _ _ c.if-time-before.false c.if-table-lt-TABLE_SIZE.false (omega (arith, is))
     (sym (rw is at c.is_known.ensures) ∙ c.if-is_known.true)
 
-pub returns-then-at-eq-TABLE_SIZE : goal.returns-then-at-eq-TABLE_SIZE
-returns-then-at-eq-TABLE_SIZE c =
+pub returns-in_default : goal.returns-in_default
+returns-in_default c =
     let is = c.to_number-number.ensures in
     is_full _ _ _ c.if-time-before.false c.if-table-lt-TABLE_SIZE.false (omega (arith, is))
-    (sym (rw is at c.is_known.ensures) ∙ c.if-is_known.false) _ c.lowest_free-at.ensures.is c.if-at-eq-TABLE_SIZE.true
+    (sym (rw is at c.is_known.ensures) ∙ c.if-is_known.false) c.in_default.ensures
 
 pub returns : goal.returns
 returns c =
     let is = c.to_number-number.ensures in
     is_new _ _ _ c.if-time-before.false c.if-table-lt-TABLE_SIZE.false (omega (arith, is))
-    (sym (rw is at c.is_known.ensures) ∙ c.if-is_known.false) _ c.lowest_free-at.ensures.is c.lowest_free-at.ensures.most
-    c.if-at-eq-TABLE_SIZE.false (omega arith) _ _ (rw is at c.put_entry.ensures)
+    (sym (rw is at c.is_known.ensures) ∙ c.if-is_known.false) _ c.in-Some.ensures.0 c.in-Some.ensures.1 (omega arith) _ _ (rw is at c.put_entry.ensures)

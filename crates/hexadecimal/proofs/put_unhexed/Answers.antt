@@ -2,11 +2,8 @@
 use mathlib.Core.Bool.{true}
 use mathlib.Core.Path.{◌≡◌, sym, ◌∙◌}
 use native.Mathlib.Omega.{arith}
-use borrow.Author.Tests.{not-true, not-false}
 use Rattle.hexadecimal.specs.Hex.{is_hex}
-use Rattle.hexadecimal.proofs.Digits.{hex_digits_lem}
-use Rattle.hexadecimal.proofs.Laws.{unhex_bad, unhex_room, unhex_put}
-use borrow.Author.Rules.{rules}
+use Rattle.hexadecimal.proofs.Laws.{unhex_room, unhex_put}
 use Rattle.hexadecimal.proofs.put_unhexed.Goals.{Else-not-is_hex}
 use Rattle.hexadecimal.proofs.put_unhexed.Goals as goal
 

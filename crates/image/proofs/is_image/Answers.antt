@@ -1,6 +1,5 @@
 -- `is_image` tests in the definition's order.
 use borrow.Author.Tests.{le-leb, lt-leb}
-use borrow.Author.Rules.{rules}
 use Rattle.image.specs.Image.{fits}
 use Rattle.image.proofs.is_image.Goals as goal
 

@@ -1,13 +1,7 @@
 -- `judge`: one walk over the records judges and counts them.
-use Prim.Native.Nat.{◌-◌}
-use mathlib.Core.Path.{◌≡◌}
-use lib.ListN.{length, take}
-use Rattle.packet.specs.Limits.{max_options}
+use Rattle.packet.specs.Packet.{records_of}
 use Rattle.judging.proofs.Judging.{Judging}
 use Rattle.judging.proofs.judge.Given as goal
 
-abbrev pub invariant-loop-i : goal.invariant-loop-i
-invariant-loop-i l = (length l.options ≡ max_options) × Judging l.lengths (take l.count l.options) l.before l.size l.i
-
-abbrev pub decreases-loop-i : goal.decreases-loop-i
-decreases-loop-i l = l.count - l.i
+abbrev pub invariant-loop-option : goal.invariant-loop-option
+invariant-loop-option l = Judging l.lengths (records_of l.fn.packet) l.before l.size l.option-index

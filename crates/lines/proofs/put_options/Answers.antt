@@ -19,10 +19,10 @@ pub loop-i-preserved : goal.loop-i-preserved
 loop-i-preserved c =
     let a = c.args in
     let rest = left a.packet.options a.packet.count c.loop-i.i (omega arith) in (
-      omega arith,
+      c.loop-i.invariant.0,
       (
         c.loop-i.invariant.1.0,
-        putting_turn c.loop-i.invariant.1.1 (ap (lines a.end a.datagram.now a.edits.now) rest)
+        putting_turn c.loop-i.invariant.1.1 (ap (lines a.end a.stores.datagram.now a.stores.edits.now) rest)
             (rw c.value.ensures.result_value at c.put_option-next.ensures),
       ),
     )

@@ -1,5 +1,5 @@
 -- `put_options` meets its contract: once the lines of the options that are left are put, all are.
-use Prim.Native.Nat.{ℕ, ◌-◌, ◌≤◌}
+use Prim.Native.Nat.{ℕ, ◌≤◌}
 use mathlib.Core.Path.{◌≡◌}
 use mathlib.Core.List.{List, map}
 use lib.ListN.{length, drop}
@@ -16,7 +16,4 @@ lines end datagram edits rs = option_lines end (map (option_of (stores datagram 
 
 abbrev pub invariant-loop-i : goal.invariant-loop-i
 invariant-loop-i l =
-    ((l.i ≤ l.count) × (l.count ≤ 128)) × ((l.count ≡ length (records_of l.packet)) × Putting l.initial.out l.at (lines l.end l.datagram l.edits (records_of l.packet)) l.out l.next (lines l.end l.datagram l.edits (drop l.i (records_of l.packet))))
-
-abbrev pub decreases-loop-i : goal.decreases-loop-i
-decreases-loop-i l = l.count - l.i
+    (l.count ≤ 128) × ((l.count ≡ length (records_of l.packet)) × Putting l.initial.out l.at (lines l.end l.stores.datagram.now l.stores.edits.now (records_of l.packet)) l.out l.next (lines l.end l.stores.datagram.now l.stores.edits.now (drop l.i (records_of l.packet))))

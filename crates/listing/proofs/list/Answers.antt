@@ -5,7 +5,9 @@ use Rattle.ground.proofs.Part.{bytes_of}
 use Rattle.refusal.specs.Answer.{beside}
 use Rattle.packet.specs.Packet.{new_packet}
 use Rattle.reading.specs.Reading.{decoded, reading}
-use Rattle.reading.specs.declared.Decoded.{Decoded}
+use Rattle.std.specs.Prelude.{Result}
+use Rattle.refusal.specs.declared.Refusal.{Refusal}
+use Rattle.packet.specs.declared.Packet.{Packet}
 use Rattle.placing.specs.Put.{Puts}
 use Rattle.lines.specs.Lines.{refusal_line}
 use Rattle.listing.specs.Listing.{newline, answer, listing}
@@ -17,7 +19,7 @@ too_long : {l m : List ℕ} {r : ℕ} (s : List ℕ) → 65535 < length s → Pu
 unfolding listing
 too_long s h p = rw (lt-ltb _ _ h) p
 
-read : {l m : List ℕ} {r : ℕ} (s : List ℕ) → length s ≤ 65535 → (d : Decoded) → decoded d ≡ beside new_packet (reading true s) → Puts l 0 (answer s (decoded d)) r m → Puts l 0 (listing s) r m
+read : {l m : List ℕ} {r : ℕ} (s : List ℕ) → length s ≤ 65535 → (d : Result Packet Refusal) → decoded d ≡ beside new_packet (reading true s) → Puts l 0 (answer s (decoded d)) r m → Puts l 0 (listing s) r m
 unfolding listing
 read s h d e p = rw (le-ltb _ _ h, ← e) p
 

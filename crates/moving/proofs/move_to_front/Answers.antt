@@ -13,12 +13,12 @@ use Rattle.moving.proofs.move_to_front.Goals as goal
 pub loop-i-preserved : goal.loop-i-preserved
 loop-i-preserved c =
     let a = c.args in
-    let few = at_most_lem _ _ _ c.smaller-count.ensures in
-    let size = part_size a.bytes.now a.start a.end c.smaller-stop.result c.smaller-stop.ensures in
-    let piece : a.start + c.loop-i.i + c.smaller-count.result - (a.start + c.loop-i.i) ≡ c.smaller-count.result = omega arith in (
+    let few = at_most_lem _ _ _ c.min-count.ensures in
+    let size = part_size a.bytes.now a.start a.end c.min-stop.result c.min-stop.ensures in
+    let piece : a.start + c.loop-i.i + c.min-count.result - (a.start + c.loop-i.i) ≡ c.min-count.result = omega arith in (
       omega (arith, few.0),
       puts_length c.put_bytes.ensures ∙ c.loop-i.invariant.1,
       puts_length c.put_bytes-in-loop-i.ensures ∙ c.loop-i.invariant.2,
-      moved_more a.bytes.now c.loop-i.bytes c.loop-i.held _ _ a.start (a.end - a.start) c.loop-i.i c.smaller-count.result _ _
+      moved_more a.bytes.now c.loop-i.bytes c.loop-i.held _ _ a.start (a.end - a.start) c.loop-i.i c.min-count.result _ _
           (omega (arith, size, few.0)) (omega (arith, c.loop-i.invariant.1, few.1)) c.loop-i.invariant.3 (rw piece at c.put_bytes.ensures) c.put_bytes-in-loop-i.ensures,
     )

@@ -5,12 +5,12 @@ use Rattle.option_reading.proofs.value_at.Goals as goal
 
 pub returns-then-number-gt-MAX_NUMBER : goal.returns-then-number-gt-MAX_NUMBER
 unfolding value_at
-returns-then-number-gt-MAX_NUMBER c = rw (lt-ltb _ _ c.if-number-gt-MAX_NUMBER.true)
+returns-then-number-gt-MAX_NUMBER g c = rw (lt-ltb _ _ c.if-number-gt-MAX_NUMBER.true)
 
-pub returns-then-buf-start : goal.returns-then-buf-start
+pub returns-then-count-start : goal.returns-then-count-start
 unfolding value_at
-returns-then-buf-start c = rw (le-ltb _ _ c.if-number-gt-MAX_NUMBER.false, lt-ltb _ _ c.if-buf-start.true)
+returns-then-count-start g c = rw (le-ltb _ _ c.if-number-gt-MAX_NUMBER.false, ← c.count.ensures, lt-ltb _ _ c.if-count-start.true)
 
 pub returns : goal.returns
 unfolding value_at
-returns c = rw (le-ltb _ _ c.if-number-gt-MAX_NUMBER.false, le-ltb _ _ c.if-buf-start.false)
+returns g c = rw (le-ltb _ _ c.if-number-gt-MAX_NUMBER.false, ← c.count.ensures, le-ltb _ _ c.if-count-start.false)

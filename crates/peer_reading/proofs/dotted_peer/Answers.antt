@@ -1,11 +1,7 @@
--- `dotted_peer`: a number, and what follows it; or none.
-use mathlib.Core.Path.{sym, ap, ◌∙◌}
+-- `dotted_peer`: a number that was taken is at most 255.
 use native.Mathlib.Omega.{arith}
-use Rattle.peer_reading.specs.Reading.{number_of, from_second}
-use Rattle.peer_reading.proofs.Numbered.{Numbered, numbered, unnumbered, rest_is}
-use Rattle.peer_reading.proofs.Putting.{same}
-use borrow.Author.Rules.{rules}
+use Rattle.peer_reading.proofs.Numbered.{taken}
 use Rattle.peer_reading.proofs.dotted_peer.Goals as goal
 
 pub overflow_cast-a : goal.overflow_cast-a
-overflow_cast-a c = omega (arith, (numbered 46 255 _ _ _ c.in-Value.ensures).small)
+overflow_cast-a c = omega (arith, (taken 46 255 c.args.text.now c.number_to.ensures c.ok_or.ensures.ok_part c.in_ok-a.was).small)

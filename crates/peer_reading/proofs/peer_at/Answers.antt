@@ -2,7 +2,7 @@
 use mathlib.Core.Path.{◌∙◌}
 use Prim.Native.Nat.{◌+◌, ◌≤◌}
 use native.Mathlib.Omega.{arith}
-use lib.ListN.{length, length-take}
+use lib.ListN.{length}
 use Rattle.peer_reading.proofs.Grouping.{gap_inside}
 use Rattle.peer_reading.proofs.Putting.{same, without_gap, with_gap, cut_rest}
 use borrow.Author.Rules.{rules}

@@ -3,7 +3,6 @@ use mathlib.Core.Path.{ap, sym, ◌∙◌}
 use Rattle.peer_reading.specs.Reading.{grouped_peer}
 use Rattle.peer_reading.proofs.Numbered.{rest_is}
 use Rattle.peer_reading.proofs.Putting.{same, peer_empty, peer_grouped, peer_dotted}
-use borrow.Author.Rules.{rules}
 use Rattle.peer_reading.proofs.peer_in.Goals as goal
 
 pub returns-then-text-eq0 : goal.returns-then-text-eq0

@@ -2,7 +2,6 @@
 use mathlib.Core.Path.{ap, ◌∙◌}
 use Rattle.peer_reading.specs.Reading.{numeral}
 use Rattle.peer_reading.proofs.Numbered.{rest_is, port_none, port_other, port_is}
-use borrow.Author.Rules.{rules}
 use Rattle.peer_reading.proofs.port_in.Goals as goal
 
 pub returns-then-text-eq0 : goal.returns-then-text-eq0

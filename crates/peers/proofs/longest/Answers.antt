@@ -1,10 +1,8 @@
 -- `longest` is safe and ends.
-use Prim.Native.Nat.{◌-◌, ◌≤◌}
-use mathlib.Core.Path.{◌≡◌, refl, sym, ◌∙◌}
+use Prim.Native.Nat.{◌-◌}
+use mathlib.Core.Path.{sym, ◌∙◌}
 use native.Mathlib.Omega.{arith}
-use Rattle.peers.specs.Text.{longest, longest_in}
 use Rattle.peers.proofs.Groups.{longest_more, longest_less, longest_done}
-use borrow.Author.Rules.{rules}
 use Rattle.peers.proofs.longest.Goals.{then-size-end, else-size-end}
 use Rattle.peers.proofs.longest.Goals as goal
 

@@ -1,7 +1,6 @@
 -- `put_address` is safe and ends.
 use mathlib.Core.Path.{sym, ◌∙◌}
 use Rattle.placing.proofs.Puts.{puts_puts}
-use borrow.Author.Rules.{rules}
 use Rattle.peers.proofs.put_address.Goals as goal
 
 pub returns : goal.returns

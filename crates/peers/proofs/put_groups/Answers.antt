@@ -1,9 +1,6 @@
 -- `put_groups` is safe and ends.
-use mathlib.Core.Path.{◌≡◌}
-use borrow.Author.Tests.{eq-eqb, ne_eqb}
+use borrow.Author.Tests.{ne_eqb}
 use Rattle.placing.proofs.Puts.{puts_puts}
-use Rattle.peers.specs.Text.{longest}
-use borrow.Author.Rules.{rules}
 use Rattle.peers.proofs.put_groups.Goals as goal
 
 pub returns : goal.returns

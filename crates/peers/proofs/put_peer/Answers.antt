@@ -1,6 +1,5 @@
 -- `put_peer` is safe and ends.
 use Rattle.placing.proofs.Puts.{puts_puts}
-use borrow.Author.Rules.{rules}
 use Rattle.peers.proofs.put_peer.Goals as goal
 
 pub returns : goal.returns

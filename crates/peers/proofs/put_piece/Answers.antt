@@ -1,6 +1,5 @@
 -- `put_piece` is safe and ends.
 use Rattle.placing.proofs.Puts.{puts_puts}
-use borrow.Author.Rules.{rules}
 use Rattle.peers.proofs.put_piece.Goals as goal
 
 pub returns : goal.returns

@@ -1,10 +1,8 @@
 -- `put_row` is safe and ends.
 use Prim.Native.Nat.{◌-◌}
 use native.Mathlib.Omega.{arith}
-use Rattle.placing.proofs.Puts.{Putting, putting_start, putting_turn, putting_end}
-use Rattle.peers.specs.Text.{row, pieces}
+use Rattle.placing.proofs.Puts.{putting_turn, putting_end}
 use Rattle.peers.proofs.Groups.{pieces_more, pieces_none}
-use borrow.Author.Rules.{rules}
 use Rattle.peers.proofs.put_row.Goals as goal
 
 pub loop-i-preserved : goal.loop-i-preserved

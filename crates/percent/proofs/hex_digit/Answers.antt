@@ -1,6 +1,5 @@
 -- `hex_digit` meets its contract.
 use mathlib.Core.Path.{refl}
-use borrow.Author.Rules.{rules}
 use borrow.Author.Tests.{lt-ltb, le-ltb}
 use Rattle.rfc.specs.Percent.{hex_digit}
 use Rattle.percent.proofs.hex_digit.Goals as goal

@@ -1,21 +1,21 @@
 -- `is_query` meets its contract: three characters by computing, the rest as in a segment.
 use mathlib.Core.Path.{refl, ◌∙◌}
-use borrow.Author.Rules.{rules}
+use native.Mathlib.Omega.{arith}
 use Rattle.rfc.specs.Uri.{literal}
 use Rattle.percent.proofs.Chars.{query_else}
 use Rattle.percent.proofs.is_query.Goals as goal
 
-pub returns-then-c-eq38 : goal.returns-then-c-eq38
+pub returns-in-38 : goal.returns-in-38
 unfolding literal
-returns-then-c-eq38 c = rw c.if-c-eq38.true refl
+returns-in-38 c = rw c.in-38.is refl
 
-pub returns-then-c-eq47 : goal.returns-then-c-eq47
+pub returns-in-47 : goal.returns-in-47
 unfolding literal
-returns-then-c-eq47 c = rw c.if-c-eq47.true refl
+returns-in-47 c = rw c.in-47.is refl
 
-pub returns-then-c-eq63 : goal.returns-then-c-eq63
+pub returns-in-63 : goal.returns-in-63
 unfolding literal
-returns-then-c-eq63 c = rw c.if-c-eq63.true refl
+returns-in-63 c = rw c.in-63.is refl
 
-pub returns : goal.returns
-returns c = c.is_pchar.ensures ∙ query_else _ c.if-c-eq38.false c.if-c-eq47.false c.if-c-eq63.false
+pub returns-in_default : goal.returns-in_default
+returns-in_default c = c.is_pchar.ensures ∙ query_else _ (omega arith) (omega arith) (omega arith)

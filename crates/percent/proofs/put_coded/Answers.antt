@@ -1,7 +1,6 @@
 -- `put_coded` meets its contract: one character, or three.
 use mathlib.Core.Path.{sym, ◌∙◌}
 use Rattle.percent.proofs.Coding.{coded_literal, coded_other}
-use borrow.Author.Rules.{rules}
 use Rattle.percent.proofs.put_coded.Goals as goal
 
 pub returns-then-is_literal : goal.returns-then-is_literal

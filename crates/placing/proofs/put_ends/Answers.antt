@@ -1,9 +1,6 @@
 -- `put_ends`: the first bytes and the last are all of them.
 use native.Mathlib.Omega.{arith}
-use lib.Seq.{length-take-le}
 use Rattle.placing.proofs.Copy.{ends_whole}
-use mathlib.Core.Path.{sym}
-use borrow.Author.Rules.{rules}
 use Rattle.placing.proofs.put_ends.Goals as goal
 
 pub returns : goal.returns

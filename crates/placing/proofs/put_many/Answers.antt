@@ -1,9 +1,6 @@
 -- `put_many`: the bytes before a place stand in the output, one piece more with each turn.
-use Prim.Native.Nat.{◌≤◌, ◌-◌}
-use mathlib.Core.Path.{◌≡◌, refl, ◌∙◌}
+use mathlib.Core.Path.{◌∙◌}
 use native.Mathlib.Omega.{arith}
-use lib.ListN.{length, take}
-use lib.Seq.{sets, take-length}
 use Rattle.placing.proofs.Copy.{piece_next}
 use Rattle.placing.proofs.Puts.{put_length}
 use Rattle.placing.proofs.put_many.Goals as goal

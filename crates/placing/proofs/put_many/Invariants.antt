@@ -1,11 +1,8 @@
 -- `put_many`: the bytes before a place stand in the output, one piece more with each turn.
 use Prim.Native.Nat.{◌≤◌, ◌-◌}
-use mathlib.Core.Path.{◌≡◌, refl, ◌∙◌}
-use native.Mathlib.Omega.{arith}
+use mathlib.Core.Path.{◌≡◌}
 use lib.ListN.{length, take}
-use lib.Seq.{sets, take-length}
-use Rattle.placing.proofs.Copy.{piece_next}
-use Rattle.placing.proofs.Puts.{put_length}
+use lib.Seq.{sets}
 use Rattle.placing.proofs.put_many.Given as goal
 
 abbrev pub invariant-loop-i : goal.invariant-loop-i

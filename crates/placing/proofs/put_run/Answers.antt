@@ -1,9 +1,7 @@
 -- `put_run`: the first bytes, where there are fewer or fewer fit; or a piece of just that many.
-use mathlib.Core.Path.{sym}
 use native.Mathlib.Omega.{arith}
 use lib.Seq.{take_all, length-take-le}
 use Rattle.placing.proofs.Puts.{whole_puts}
-use borrow.Author.Rules.{rules}
 use Rattle.placing.proofs.put_run.Goals as goal
 
 pub returns-then-bytes-lt-RUN : goal.returns-then-bytes-lt-RUN

@@ -1,8 +1,6 @@
 -- `put_uint` meets its contract: the bytes that are stored stand behind those of what is left (`Filling`).
-use mathlib.Core.Path.{refl}
 use native.Mathlib.Omega.{arith}
-use Rattle.placing.proofs.Puts.{puts_length}
-use Rattle.placing.proofs.Draining.{Filling, fill_start, place_before, fill_turn, fill_end}
+use Rattle.placing.proofs.Draining.{fill_turn, fill_end}
 use Rattle.placing.proofs.put_uint.Goals as goal
 
 pub loop-rest-preserved : goal.loop-rest-preserved

@@ -1,6 +1,6 @@
 -- `uint_length` meets its contract: what is counted and what is left make all (`Counting`).
 use native.Mathlib.Omega.{arith}
-use Rattle.placing.proofs.Draining.{Counting, count_start, count_turn, count_end}
+use Rattle.placing.proofs.Draining.{count_start, count_turn, count_end}
 use Rattle.placing.proofs.uint_length.Goals as goal
 
 pub loop-rest-init : goal.loop-rest-init

@@ -1,6 +1,5 @@
 -- `uint_length` meets its contract: what is counted and what is left make all (`Counting`).
-use native.Mathlib.Omega.{arith}
-use Rattle.placing.proofs.Draining.{Counting, count_start, count_turn, count_end}
+use Rattle.placing.proofs.Draining.{Counting}
 use Rattle.placing.proofs.uint_length.Given as goal
 
 abbrev pub invariant-loop-rest : goal.invariant-loop-rest

@@ -1,10 +1,6 @@
 -- `largest_at` doubles an open block until the double isn't open.
-use Prim.Native.Nat.{◌-◌}
 use Rattle.planning.proofs.Largest.{Grown}
 use Rattle.planning.proofs.largest_at.Given as goal
 
 abbrev pub invariant-loop-exponent : goal.invariant-loop-exponent
 invariant-loop-exponent l = Grown l.held l.unit l.exponent l.width
-
-abbrev pub decreases-loop-exponent : goal.decreases-loop-exponent
-decreases-loop-exponent l = 6 - l.exponent

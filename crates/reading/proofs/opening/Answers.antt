@@ -1,7 +1,7 @@
 -- `opening`: the length, the header, and what follows it.
-use mathlib.Core.Path.{sym, ap, ◌∙◌}
+use mathlib.Core.Path.{sym}
+use Rattle.std.proofs.lemmas.Result.{err_from_is_err_and}
 use borrow.Author.Tests.{lt-ltb, le-ltb}
-use Rattle.header.specs.Header.{raw_read}
 use Rattle.reading.specs.Headed.{headed}
 use Rattle.reading.proofs.opening.Goals as goal
 
@@ -9,11 +9,13 @@ pub returns-then-buf-gt-MAX_STORE : goal.returns-then-buf-gt-MAX_STORE
 unfolding headed
 returns-then-buf-gt-MAX_STORE c = rw (lt-ltb _ _ c.if-buf-gt-MAX_STORE.true)
 
-pub returns-in-Refused : goal.returns-in-Refused
+pub returns-in_err-raw : goal.returns-in_err-raw
 unfolding headed
-returns-in-Refused c = rw (le-ltb _ _ c.if-buf-gt-MAX_STORE.false, sym c.try_from.ensures ∙ ap raw_read c.in-Refused.is)
+returns-in_err-raw c =
+    let p = err_from_is_err_and c.from_residual.result c.from_residual.ensures.1 in
+    rw (p.1, p.2, le-ltb _ _ c.if-buf-gt-MAX_STORE.false, sym c.in_err-raw.ensures)
 
-pub returns-in-Raw : goal.returns-in-Raw
+pub returns : goal.returns
 unfolding headed
-returns-in-Raw c =
-    rw (le-ltb _ _ c.if-buf-gt-MAX_STORE.false, sym c.try_from.ensures ∙ ap raw_read c.in-Raw.is) c.after_header.ensures
+returns c =
+    rw (le-ltb _ _ c.if-buf-gt-MAX_STORE.false, sym c.in_ok-raw.ensures) c.after_header.ensures

@@ -7,18 +7,18 @@ use Rattle.replaying.proofs.replay.Goals as goal
 
 pub hear_all-requires : goal.hear_all-requires
 hear_all-requires c =
-    let o = counted _ _ c.in-Messages.ensures in
+    let o = counted _ _ c.in_default.ensures in
     follows _ o.messages o.are _ c.form_of.ensures
 
-pub returns-in-Refused : goal.returns-in-Refused
-returns-in-Refused c = not_begun _ _ _ _ (not_judged _ c.args.table.now _ (uncounted _ _ c.in-Refused.ensures))
+pub returns-in-Err : goal.returns-in-Err
+returns-in-Err c = not_begun _ _ _ _ (not_judged _ c.args.table.now _ (uncounted _ _ c.in-Err.ensures))
 
-pub returns-in-Refused-clear : goal.returns-in-Refused-clear
-returns-in-Refused-clear c =
-    let o = counted _ _ c.in-Messages.ensures in
-    no_table _ _ _ o.messages o.are _ _ c.clear.ensures _ (ap outcome c.in-Refused-clear.is)
+pub returns-in-Err-clear : goal.returns-in-Err-clear
+returns-in-Err-clear c =
+    let o = counted _ _ c.in_default.ensures in
+    no_table _ _ _ o.messages o.are _ _ c.clear.ensures _ (ap outcome c.in-Err-clear.is)
 
-pub returns-in-Done : goal.returns-in-Done
-returns-in-Done c =
-    let o = counted _ _ c.in-Messages.ensures in
-    begun _ _ _ o.messages o.are _ _ c.clear.ensures _ c.form_of.ensures (ap outcome c.in-Done.is) _ _ _ _ c.hear_all.ensures
+pub returns : goal.returns
+returns c =
+    let o = counted _ _ c.in_default.ensures in
+    begun _ _ _ o.messages o.are _ _ c.clear.ensures _ c.form_of.ensures (ap outcome c.in_default-clear.is) _ _ _ _ c.hear_all.ensures

@@ -3,8 +3,8 @@ use Prim.Native.Nat.{◌+◌}
 use mathlib.Core.Path.{◌≡◌, sym, ap, ◌∙◌}
 use native.Mathlib.Omega.{arith}
 use lib.ListN.{get_or}
+use Rattle.option_reading.specs.Answers.{value_of}
 use Rattle.option_reading.specs.Option.{Value}
-use Rattle.scanning.specs.Plain.{value_of}
 use Rattle.scanning.proofs.Plain.{Here, here, second_turn}
 use Rattle.scanning.proofs.put_options.Goals as goal
 

@@ -1,10 +1,6 @@
 -- `put_options`: once the options that are left are put, all are; each is read at the place that was noted for it.
-use Prim.Native.Nat.{◌-◌}
 use Rattle.scanning.proofs.Plain.{Second}
 use Rattle.scanning.proofs.put_options.Given as goal
 
 abbrev pub invariant-loop-i : goal.invariant-loop-i
 invariant-loop-i l = Second l.strict l.buf l.places l.count l.initial.out l.out l.number l.i
-
-abbrev pub decreases-loop-i : goal.decreases-loop-i
-decreases-loop-i l = l.count - l.i

@@ -1,5 +1,4 @@
 -- `filled` fills the places one by one with the splice's own records.
-use Prim.Native.Nat.{◌-◌}
 use mathlib.Core.List.{map}
 use Rattle.packet.specs.Packet.{records_of}
 use Rattle.splicing.specs.Splice.{record_of, ranges_in, spliced}
@@ -8,6 +7,3 @@ use Rattle.splicing.proofs.filled.Given as goal
 
 abbrev pub invariant-loop-i : goal.invariant-loop-i
 invariant-loop-i l = Filling (spliced l.low l.high (map (record_of l.number) (ranges_in l.ranges)) (records_of l.packet)) l.records l.count l.i
-
-abbrev pub decreases-loop-i : goal.decreases-loop-i
-decreases-loop-i l = l.count - l.i

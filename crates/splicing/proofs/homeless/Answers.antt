@@ -8,14 +8,14 @@ use Rattle.splicing.proofs.homeless.Goals as goal
 pub returns-then-ranges-i-gt1 : goal.returns-then-ranges-i-gt1
 returns-then-ranges-i-gt1 c =
     let s = c.args.ranges.now in
-    sym (c.loop-i.invariant.2 ∙ (homeless_from s c.loop-i.i (omega arith) ∙ rw (lt-ltb _ _ c.if-ranges-i-gt1.true) refl))
+    sym (c.loop-i.invariant ∙ (homeless_from s c.loop-i.i (omega arith) ∙ rw (lt-ltb _ _ c.if-ranges-i-gt1.true) refl))
 
 pub loop-i-preserved : goal.loop-i-preserved
 loop-i-preserved c =
     let s = c.args.ranges.now in
-    (c.loop-i.invariant.0, omega arith, c.loop-i.invariant.2 ∙ (homeless_from s c.loop-i.i (omega arith) ∙ rw (le-ltb _ _ c.if-ranges-i-gt1.false) refl))
+    c.loop-i.invariant ∙ (homeless_from s c.loop-i.i (omega arith) ∙ rw (le-ltb _ _ c.if-ranges-i-gt1.false) refl)
 
 pub returns : goal.returns
 returns c =
     let s = c.args.ranges.now in
-    sym (c.loop-i.invariant.2 ∙ homeless_past s c.loop-i.i (omega arith))
+    sym (c.loop-i.invariant ∙ homeless_past s c.loop-i.i (omega arith))

@@ -34,20 +34,19 @@ module _ (p : Packet) (number low high : ℕ) (l : List ℕ) (used from to : ℕ
 pub returns-then-homeless : goal.returns-then-homeless
 returns-then-homeless c =
     let a = c.args in
-    c.refused.ensures ∙ ap (beside a.packet) (at_no_home a.ranges.now (edit a.packet a.low a.high a.number) (sym c.if-homeless.ensures))
+    ap (beside a.packet) (at_no_home a.ranges.now (edit a.packet a.low a.high a.number) (sym c.if-homeless.ensures))
 
 pub returns-then-count-gt-MAX_OPTIONS : goal.returns-then-count-gt-MAX_OPTIONS
 returns-then-count-gt-MAX_OPTIONS c =
     let a = c.args in
-    let n = long a.packet a.number a.low a.high a.ranges.now _ _ _ c.option_count-used.ensures c.least-from.ensures c.least-to.ensures in
-    let e = as_asked a.packet a.number a.low a.high a.ranges.now _ _ _ c.option_count-used.ensures c.least-from.ensures c.least-to.ensures (sym c.if-homeless.ensures) in
-    c.refused-then-count-gt-MAX_OPTIONS.ensures ∙ ap (beside a.packet) (no_room a.packet _ (omega (arith, n, c.if-count-gt-MAX_OPTIONS.true)) ∙ e)
+    let n = long a.packet a.number a.low a.high a.ranges.now _ _ _ c.option_count-used.ensures c.min-from.ensures c.min-to.ensures in
+    let e = as_asked a.packet a.number a.low a.high a.ranges.now _ _ _ c.option_count-used.ensures c.min-from.ensures c.min-to.ensures (sym c.if-homeless.ensures) in
+    ap (beside a.packet) (no_room a.packet _ (omega (arith, n, c.if-count-gt-MAX_OPTIONS.true)) ∙ e)
 
 pub returns : goal.returns
 returns c =
     let a = c.args in
-    let n = long a.packet a.number a.low a.high a.ranges.now _ _ _ c.option_count-used.ensures c.least-from.ensures c.least-to.ensures in
-    let e = as_asked a.packet a.number a.low a.high a.ranges.now _ _ _ c.option_count-used.ensures c.least-from.ensures c.least-to.ensures (sym c.if-homeless.ensures) in
-    c.done.ensures
-    ∙ (ap (λ (q : Packet). beside q (given q)) c.filled.ensures
-    ∙ ap (beside a.packet) (room a.packet _ (omega (arith, n, c.if-count-gt-MAX_OPTIONS.false)) ∙ e))
+    let n = long a.packet a.number a.low a.high a.ranges.now _ _ _ c.option_count-used.ensures c.min-from.ensures c.min-to.ensures in
+    let e = as_asked a.packet a.number a.low a.high a.ranges.now _ _ _ c.option_count-used.ensures c.min-from.ensures c.min-to.ensures (sym c.if-homeless.ensures) in
+    ap (λ (q : Packet). beside a.packet (given q)) c.filled.ensures
+    ∙ ap (beside a.packet) (room a.packet _ (omega (arith, n, c.if-count-gt-MAX_OPTIONS.false)) ∙ e)

@@ -7,9 +7,9 @@ use Rattle.stream.proofs.all_zero.Goals as goal
 pub returns-then-stream-from-ne0 : goal.returns-then-stream-from-ne0
 returns-then-stream-from-ne0 c =
     let a = c.args in
-    sym (c.loop-i.invariant.1 ∙ zeros_stop a.stream.now a.from a.n c.loop-i.i (omega arith) (omega arith) c.if-stream-from-ne0.true)
+    sym (c.loop-i.invariant ∙ zeros_stop a.stream.now a.from a.n c.loop-i.i (omega arith) (omega arith) c.if-stream-from-ne0.true)
 
 pub loop-i-preserved : goal.loop-i-preserved
 loop-i-preserved c =
     let a = c.args in
-    (omega arith, c.loop-i.invariant.1 ∙ zeros_turn a.stream.now a.from a.n c.loop-i.i (omega arith) (omega arith) c.if-stream-from-ne0.false)
+    c.loop-i.invariant ∙ zeros_turn a.stream.now a.from a.n c.loop-i.i (omega arith) (omega arith) c.if-stream-from-ne0.false

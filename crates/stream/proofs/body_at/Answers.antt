@@ -14,31 +14,31 @@ pub returns-then-before-whole : goal.returns-then-before-whole
 returns-then-before-whole c =
     body_stops _ _ _ _ _ _ c.loop-form.invariant (λ q. c.if-byte_at-eq3.false (c.byte_at.ensures.is ∙ q)) (omega (arith, c.full_of-whole.ensures))
 
-pub returns-in-Bad : goal.returns-in-Bad
-returns-in-Bad c =
-    body_refused _ _ _ _ _ _ c.loop-form.invariant (λ q. c.if-byte_at-eq3.false (c.byte_at.ensures.is ∙ q)) (omega (arith, c.full_of-whole.ensures)) c.in-Bad.ensures
+pub returns-in_default : goal.returns-in_default
+returns-in_default c =
+    body_refused _ _ _ _ _ _ c.loop-form.invariant (λ q. c.if-byte_at-eq3.false (c.byte_at.ensures.is ∙ q)) (omega (arith, c.full_of-whole.ensures)) c.in_default.ensures
 
 pub overflow_add-len : goal.overflow_add-len
 overflow_add-len c =
-    let k = chunk_of c.args.form c.args.stream.now c.loop-form.at c.in-Of.n (sym c.in-Of.ensures) in
+    let k = chunk_of c.args.form c.args.stream.now c.loop-form.at c.in-Some.n (sym c.in-Some.ensures) in
     omega (arith, k.inside, c.loop-form.invariant.short)
 
-pub overflow_add-at-in-Of : goal.overflow_add-at-in-Of
-overflow_add-at-in-Of c =
-    let k = chunk_of c.args.form c.args.stream.now c.loop-form.at c.in-Of.n (sym c.in-Of.ensures) in
+pub overflow_add-at-in-loop-form : goal.overflow_add-at-in-loop-form
+overflow_add-at-in-loop-form c =
+    let k = chunk_of c.args.form c.args.stream.now c.loop-form.at c.in-Some.n (sym c.in-Some.ensures) in
     omega (arith, k.inside, c.head_of.ensures)
 
-pub overflow_add-at-in-Of-2 : goal.overflow_add-at-in-Of-2
-overflow_add-at-in-Of-2 c =
-    let k = chunk_of c.args.form c.args.stream.now c.loop-form.at c.in-Of.n (sym c.in-Of.ensures) in
+pub overflow_add-at-in-loop-form-2 : goal.overflow_add-at-in-loop-form-2
+overflow_add-at-in-loop-form-2 c =
+    let k = chunk_of c.args.form c.args.stream.now c.loop-form.at c.in-Some.n (sym c.in-Some.ensures) in
     omega (arith, k.inside, c.head_of.ensures, c.padding_of.ensures)
 
 pub loop-form-smaller : goal.loop-form-smaller
 loop-form-smaller c =
-    let k = chunk_of c.args.form c.args.stream.now c.loop-form.at c.in-Of.n (sym c.in-Of.ensures) in
+    let k = chunk_of c.args.form c.args.stream.now c.loop-form.at c.in-Some.n (sym c.in-Some.ensures) in
     omega (arith, k.inside, k.some, c.head_of.ensures, c.padding_of.ensures)
 
 pub loop-form-preserved : goal.loop-form-preserved
 loop-form-preserved c =
     rw (c.head_of.ensures, c.padding_of.ensures)
-    (body_turn _ _ _ _ _ _ c.loop-form.invariant c.in-Of.n (λ q. c.if-byte_at-eq3.false (c.byte_at.ensures.is ∙ q)) (omega (arith, c.full_of-whole.ensures)) c.in-Of.ensures)
+    (body_turn _ _ _ _ _ _ c.loop-form.invariant c.in-Some.n (λ q. c.if-byte_at-eq3.false (c.byte_at.ensures.is ∙ q)) (omega (arith, c.full_of-whole.ensures)) c.in-Some.ensures)

@@ -3,7 +3,6 @@ use native.Mathlib.Omega.{arith}
 use Rattle.packet.specs.Packet.{new_packet}
 use Rattle.uri_text.proofs.Tallying.{mark_inside}
 use Rattle.target_reading.proofs.Answers.{path_placeable, query_placeable, both_filled}
-use borrow.Author.Rules.{rules}
 use Rattle.target_reading.proofs.put_both.Goals as goal
 
 pub between-requires : goal.between-requires

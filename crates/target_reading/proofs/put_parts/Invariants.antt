@@ -1,13 +1,10 @@
 -- `put_parts` meets its contract: what is owed is what the parts from here on say (`Filling`).
 use Prim.Native.Nat.{◌+◌, ◌-◌, ◌≤◌}
-use mathlib.Core.Path.{refl}
-use native.Mathlib.Omega.{arith}
-use borrow.Author.Rules.{rules}
 use lib.ListN.{length}
 use Rattle.packet.specs.Limits.{max_store}
 use Rattle.percent.specs.Step.{kind_of}
 use Rattle.target_reading.specs.Placing.{values_in}
-use Rattle.target_reading.proofs.Placing.{Filling, filling_start, filling_none, end_inside, places_here, count_here, next_inside, filling_turn, filling_end, filled_all}
+use Rattle.target_reading.proofs.Placing.{Filling}
 use Rattle.target_reading.proofs.put_parts.Given as goal
 
 abbrev pub invariant-loop-kind : goal.invariant-loop-kind

@@ -7,16 +7,16 @@ use Rattle.thawing.proofs.judge_strictly.Goals as goal
 
 pub overflow_add-bytes : goal.overflow_add-bytes
 overflow_add-bytes c =
-    let o = accepted _ _ _ _ _ (sym c.in-Message.ensures) in
+    let o = accepted _ _ _ _ _ (sym c.in-Ok.ensures) in
     omega (arith, c.loop-at.invariant.short, strict_room _ _ _ _ _ _ _ c.loop-at.invariant _ _ c.loop-at-test.true o, o.whole.stands.inside, o.whole.next_is)
 
 pub loop-at-smaller : goal.loop-at-smaller
 loop-at-smaller c =
-    omega (arith, c.loop-at-test.true, strict_room _ _ _ _ _ _ _ c.loop-at.invariant _ _ c.loop-at-test.true (accepted _ _ _ _ _ (sym c.in-Message.ensures)))
+    omega (arith, c.loop-at-test.true, strict_room _ _ _ _ _ _ _ c.loop-at.invariant _ _ c.loop-at-test.true (accepted _ _ _ _ _ (sym c.in-Ok.ensures)))
 
 pub loop-at-preserved : goal.loop-at-preserved
 loop-at-preserved c =
-    strict_turn _ _ _ _ _ _ _ c.loop-at.invariant _ _ c.loop-at-test.true (accepted _ _ _ _ _ (sym c.in-Message.ensures)) _ c.chunk_count-chunks.ensures
+    strict_turn _ _ _ _ _ _ _ c.loop-at.invariant _ _ c.loop-at-test.true (accepted _ _ _ _ _ (sym c.in-Ok.ensures)) _ c.chunk_count-chunks.ensures
 
 pub returns : goal.returns
 returns c = strict_ends _ _ _ _ _ _ _ c.loop-at.invariant c.loop-at-test.false

@@ -8,19 +8,19 @@ use Rattle.thawing.proofs.list_messages.Goals as goal
 pub loop-at-init : goal.loop-at-init
 loop-at-init c = rw c.requires.are (list_start _ _ _ _ c.requires)
 
-pub returns-in-Refused-clause-list_after : goal.returns-in-Refused-clause-list_after
-returns-in-Refused-clause-list_after c =
-    list_some _ _ _ _ _ _ _ _ _ _ c.loop-at.invariant c.loop-at-test.true _ _ _ c.next_message.ensures (ap step_read c.in-Refused.is)
+pub returns-in_default-clause-list_after : goal.returns-in_default-clause-list_after
+returns-in_default-clause-list_after c =
+    list_some _ _ _ _ _ _ _ _ _ _ c.loop-at.invariant c.loop-at-test.true _ _ _ c.next_message.ensures (ap step_read c.in_default.is)
 
-pub returns-in-Refused-clause-out_after : goal.returns-in-Refused-clause-out_after
-returns-in-Refused-clause-out_after c =
-    list_some _ _ _ _ _ _ _ _ _ _ c.loop-at.invariant c.loop-at-test.true _ _ _ c.next_message.ensures (ap step_read c.in-Refused.is)
+pub returns-in_default-clause-out_after : goal.returns-in_default-clause-out_after
+returns-in_default-clause-out_after c =
+    list_some _ _ _ _ _ _ _ _ _ _ c.loop-at.invariant c.loop-at-test.true _ _ _ c.next_message.ensures (ap step_read c.in_default.is)
 
 pub loop-at-smaller : goal.loop-at-smaller
-loop-at-smaller c = omega (arith, c.loop-at-test.true, (list_next _ _ _ _ _ _ _ _ _ _ c.loop-at.invariant c.loop-at-test.true _ _ _ _ c.in-Message.is c.next_message.ensures).onwards)
+loop-at-smaller c = omega (arith, c.loop-at-test.true, (list_next _ _ _ _ _ _ _ _ _ _ c.loop-at.invariant c.loop-at-test.true _ _ _ _ c.in-Ok.is c.next_message.ensures).onwards)
 
 pub loop-at-preserved : goal.loop-at-preserved
-loop-at-preserved c = (list_next _ _ _ _ _ _ _ _ _ _ c.loop-at.invariant c.loop-at-test.true _ _ _ _ c.in-Message.is c.next_message.ensures).walk
+loop-at-preserved c = (list_next _ _ _ _ _ _ _ _ _ _ c.loop-at.invariant c.loop-at-test.true _ _ _ _ c.in-Ok.is c.next_message.ensures).walk
 
 pub returns-clause-list_after : goal.returns-clause-list_after
 returns-clause-list_after c =

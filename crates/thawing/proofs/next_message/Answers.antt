@@ -5,11 +5,11 @@ use Rattle.thawing.proofs.Message.{whole_length, whole_inside, next_copied}
 use Rattle.thawing.proofs.next_message.Goals as goal
 
 pub overflow_add-at : goal.overflow_add-at
-overflow_add-at c = omega (arith, whole_inside _ _ _ _ _ (whole_of _ _ _ _ _ c.in-Message.ensures))
+overflow_add-at c = omega (arith, whole_inside _ _ _ _ _ (whole_of _ _ _ _ _ c.in_ok-message.ensures))
 
 pub copy_chunks-requires : goal.copy_chunks-requires
-copy_chunks-requires c = whole_length _ _ _ _ _ (whole_of _ _ _ _ _ c.in-Message.ensures)
+copy_chunks-requires c = whole_length _ _ _ _ _ (whole_of _ _ _ _ _ c.in_ok-message.ensures)
 
-pub returns-else-out-to-2 : goal.returns-else-out-to-2
-returns-else-out-to-2 c =
-    next_copied _ _ _ _ _ (whole_of _ _ _ _ _ c.in-Message.ensures) _ _ _ _ (omega arith) c.copy_chunks.ensures
+pub returns : goal.returns
+returns c =
+    next_copied _ _ _ _ _ (whole_of _ _ _ _ _ c.in_ok-message.ensures) _ _ _ _ (omega arith) c.copy_chunks.ensures

@@ -4,6 +4,7 @@ use mathlib.Core.Path.{◌≡◌, refl, sym, ap, ◌∙◌}
 use mathlib.Core.List.{List}
 use native.Mathlib.Omega.{arith}
 use lib.ListN.{take, drop}
+use Rattle.std.proofs.lemmas.Result.{err_from_is_err_and}
 use Rattle.ground.specs.Part.{part}
 use Rattle.stream.specs.declared.Form.{Form}
 use Rattle.stream.specs.Stream.{head_size}
@@ -18,32 +19,34 @@ piece : (form : Form) (s : List ℕ) (at len head : ℕ) → head ≡ head_size 
 piece form s at len head e = let k : at + 19 + head + len - (at + 19 + head) ≡ len = omega arith in rw (k, e) refl
 
 pub overflow_add-at : goal.overflow_add-at
-overflow_add-at c = omega (arith, whole_inside _ _ _ _ _ (whole_of _ _ _ _ _ c.in-Message.ensures))
+overflow_add-at c = omega (arith, whole_inside _ _ _ _ _ (whole_of _ _ _ _ _ c.in_ok-message.ensures))
 
 pub strict_apart-requires : goal.strict_apart-requires
 strict_apart-requires c =
-    let o = whole_of _ _ _ _ _ c.in-Message.ensures in
+    let o = whole_of _ _ _ _ _ c.in_ok-message.ensures in
     (whole_length _ _ _ _ _ o, omega (arith, o.length_is, o.stands.sized.most))
 
-pub returns-then-chunk_length-len : goal.returns-then-chunk_length-len
-returns-then-chunk_length-len c = strict_is _ _ _ _ _ (whole_of _ _ _ _ _ c.in-Message.ensures) _ c.strict_apart.ensures
+pub returns-then-chunk_length-message : goal.returns-then-chunk_length-message
+returns-then-chunk_length-message c = strict_is _ _ _ _ _ (whole_of _ _ _ _ _ c.in_ok-message.ensures) _ c.strict_apart.ensures
 
 pub overflow_add-start : goal.overflow_add-start
-overflow_add-start c = omega (arith, one_inside _ _ _ _ _ (whole_of _ _ _ _ _ c.in-Message.ensures) (omega (arith, c.chunk_length.ensures, c.if-chunk_length-len.false)))
+overflow_add-start c = omega (arith, one_inside _ _ _ _ _ (whole_of _ _ _ _ _ c.in_ok-message.ensures) (omega (arith, c.chunk_length.ensures, c.if-chunk_length-message.false)))
 
-pub overflow_add-start-in-Message : goal.overflow_add-start-in-Message
-overflow_add-start-in-Message c = omega (arith, one_inside _ _ _ _ _ (whole_of _ _ _ _ _ c.in-Message.ensures) (omega (arith, c.chunk_length.ensures, c.if-chunk_length-len.false)), c.head_of.ensures)
+pub overflow_add-start-2 : goal.overflow_add-start-2
+overflow_add-start-2 c = omega (arith, one_inside _ _ _ _ _ (whole_of _ _ _ _ _ c.in_ok-message.ensures) (omega (arith, c.chunk_length.ensures, c.if-chunk_length-message.false)), c.head_of.ensures)
 
-pub overflow_add-e : goal.overflow_add-e
-overflow_add-e c = omega (arith, one_inside _ _ _ _ _ (whole_of _ _ _ _ _ c.in-Message.ensures) (omega (arith, c.chunk_length.ensures, c.if-chunk_length-len.false)), c.head_of.ensures)
+pub overflow_add-end : goal.overflow_add-end
+overflow_add-end c = omega (arith, one_inside _ _ _ _ _ (whole_of _ _ _ _ _ c.in_ok-message.ensures) (omega (arith, c.chunk_length.ensures, c.if-chunk_length-message.false)), c.head_of.ensures)
 
-pub slice_bounds-datagram-end : goal.slice_bounds-datagram-end
-slice_bounds-datagram-end c = let h = one_inside _ _ _ _ _ (whole_of _ _ _ _ _ c.in-Message.ensures) (omega (arith, c.chunk_length.ensures, c.if-chunk_length-len.false)) in let k = c.head_of.ensures in search rules
+pub slice_bounds-strict_before-end : goal.slice_bounds-strict_before-end
+slice_bounds-strict_before-end c = let h = one_inside _ _ _ _ _ (whole_of _ _ _ _ _ c.in_ok-message.ensures) (omega (arith, c.chunk_length.ensures, c.if-chunk_length-message.false)) in let k = c.head_of.ensures in search rules
 
-pub returns-in-Refused : goal.returns-in-Refused
-returns-in-Refused c = sym (strict_bad _ _ _ _ (bad_of _ _ _ _ c.in-Refused.ensures))
+pub returns-in_err-message : goal.returns-in_err-message
+returns-in_err-message c =
+    let p = err_from_is_err_and c.from_residual.result c.from_residual.ensures.1 in
+    rw (p.1, p.2) (sym (strict_bad _ _ _ _ (bad_of _ _ _ _ c.in_err-message.ensures)))
 
-pub returns-else-chunk_length-len : goal.returns-else-chunk_length-len
-returns-else-chunk_length-len c =
-    let o = whole_of _ _ _ _ _ c.in-Message.ensures in
-    strict_is _ _ _ _ _ o _ (c.strict_before.ensures ∙ ap (λ (d : List ℕ). strict_before d c.in-Message.next) (piece c.args.form _ _ _ _ c.head_of.ensures ∙ one_piece _ _ _ _ _ o (omega (arith, c.chunk_length.ensures, c.if-chunk_length-len.false))))
+pub returns : goal.returns
+returns c =
+    let o = whole_of _ _ _ _ _ c.in_ok-message.ensures in
+    strict_is _ _ _ _ _ o _ (c.strict_before.ensures ∙ ap (λ (d : List ℕ). strict_before d c.in_ok-message.message.next) (piece c.args.form _ _ _ _ c.head_of.ensures ∙ one_piece _ _ _ _ _ o (omega (arith, c.chunk_length.ensures, c.if-chunk_length-message.false))))

@@ -5,20 +5,20 @@ use native.Mathlib.Omega.{arith}
 use Rattle.tracing.proofs.arrival_at.Goals as goal
 
 pub overflow_add-at : goal.overflow_add-at
-overflow_add-at c = let o = measured _ _ _ _ _ _ c.in-Message.ensures in omega (arith, header_there _ _ _ o.stands.found o.stands.message)
+overflow_add-at c = let o = measured _ _ _ _ _ _ c.in_ok-timed.ensures in omega (arith, header_there _ _ _ o.stands.found o.stands.message)
 
-pub overflow_add-at-in-Message : goal.overflow_add-at-in-Message
-overflow_add-at-in-Message c = let o = measured _ _ _ _ _ _ c.in-Message.ensures in omega (arith, header_there _ _ _ o.stands.found o.stands.message, c.head_of.ensures)
+pub overflow_add-at-2 : goal.overflow_add-at-2
+overflow_add-at-2 c = let o = measured _ _ _ _ _ _ c.in_ok-timed.ensures in omega (arith, header_there _ _ _ o.stands.found o.stands.message, c.head_of.ensures)
 
 pub header_at-raw-requires : goal.header_at-raw-requires
-header_at-raw-requires c = let o = measured _ _ _ _ _ _ c.in-Message.ensures in omega (arith, header_there _ _ _ o.stands.found o.stands.message, c.head_of.ensures)
+header_at-raw-requires c = let o = measured _ _ _ _ _ _ c.in_ok-timed.ensures in omega (arith, header_there _ _ _ o.stands.found o.stands.message, c.head_of.ensures)
 
-pub overflow_add-at-in-Message-2 : goal.overflow_add-at-in-Message-2
-overflow_add-at-in-Message-2 c = let o = measured _ _ _ _ _ _ c.in-Message.ensures in omega (arith, peer_there _ _ _ o.stands.found o.stands.message)
+pub overflow_add-at-3 : goal.overflow_add-at-3
+overflow_add-at-3 c = let o = measured _ _ _ _ _ _ c.in_ok-timed.ensures in omega (arith, peer_there _ _ _ o.stands.found o.stands.message)
 
 pub peer_at-peer-requires : goal.peer_at-peer-requires
-peer_at-peer-requires c = let o = measured _ _ _ _ _ _ c.in-Message.ensures in omega (arith, peer_there _ _ _ o.stands.found o.stands.message)
+peer_at-peer-requires c = let o = measured _ _ _ _ _ _ c.in_ok-timed.ensures in omega (arith, peer_there _ _ _ o.stands.found o.stands.message)
 
-pub returns-in-Message : goal.returns-in-Message
-returns-in-Message c =
-    arrives _ _ _ _ _ _ (measured _ _ _ _ _ _ c.in-Message.ensures) c.header_at-raw.result (rw c.head_of.ensures at c.header_at-raw.ensures) _ c.from_number-kind.ensures _ c.peer_at-peer.ensures
+pub returns : goal.returns
+returns c =
+    arrives _ _ _ _ _ _ (measured _ _ _ _ _ _ c.in_ok-timed.ensures) c.header_at-raw.result (rw c.head_of.ensures at c.header_at-raw.ensures) _ c.from_number-kind.ensures _ c.peer_at-peer.ensures

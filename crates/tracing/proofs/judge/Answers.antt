@@ -13,10 +13,10 @@ in_its_form : (form : Form) (s : List ℕ) → form ≡ form_of s → count_of (
 in_its_form form s e = ap (λ (f : Form). count_of (strict_from f s 0)) e
 
 pub loop-at-smaller : goal.loop-at-smaller
-loop-at-smaller c = omega (arith, c.loop-at-test.true, (taken _ _ _ _ _ (sym c.in-Message.ensures)).onward)
+loop-at-smaller c = omega (arith, c.loop-at-test.true, (taken _ _ _ _ _ (sym c.in-Ok.ensures)).onward)
 
 pub loop-at-preserved : goal.loop-at-preserved
-loop-at-preserved c = judge_turn _ _ _ _ c.loop-at.invariant _ _ c.loop-at-test.true (taken _ _ _ _ _ (sym c.in-Message.ensures))
+loop-at-preserved c = judge_turn _ _ _ _ c.loop-at.invariant _ _ c.loop-at-test.true (taken _ _ _ _ _ (sym c.in-Ok.ensures))
 
 pub returns : goal.returns
 returns c = judge_ends _ _ _ _ c.loop-at.invariant c.loop-at-test.false ∙ in_its_form _ _ c.form_of-form.ensures

@@ -5,9 +5,10 @@ use mathlib.Core.Bool.{Bool, true}
 use mathlib.Core.List.{List}
 use lib.ListN.{length, get_or}
 use lib.Dec.{ltb}
+use Rattle.std.proofs.lemmas.Result.{err_from_is_err_and}
 use Rattle.refusal.specs.Answer.{Answer, given, onward}
 use Rattle.option_value.specs.Uint.{Padded, read_uint}
-use Rattle.packet.specs.Packet.{Stores, none, stores, value_of, records_of, of_number}
+use Rattle.packet.specs.Packet.{Stores, none, held, value_of, records_of, of_number}
 use Rattle.packet.specs.declared.Packet.{Packet}
 use Rattle.typed_options.specs.Getters.{Found, number, absent, observe_in}
 use Rattle.typed_options.proofs.Getters.{on_absent, on_present}
@@ -29,12 +30,13 @@ pub returns-then-not-has_option : goal.returns-then-not-has_option
 unfolding observe_in
 returns-then-not-has_option c =
     let a = c.args in
-    on_absent (given absent) (λ r. found (read_uint 4 (value_of (stores a.datagram.now a.edits.now) r))) _ (of_number 6 (records_of a.packet)) c.has_option.ensures c.if-not-has_option.true
+    on_absent (given absent) (λ r. found (read_uint 4 (value_of (held a.stores) r))) _ (of_number 6 (records_of a.packet)) c.has_option.ensures c.if-not-has_option.true
 
-pub returns-in-Refused : goal.returns-in-Refused
-returns-in-Refused c =
-    answer (stores c.args.datagram.now c.args.edits.now) c.args.packet _ _ _ c.has_option.ensures c.if-not-has_option.false c.get_first_option.ensures.result_value c.in-Refused.ensures
+pub returns-in_err-read : goal.returns-in_err-read
+returns-in_err-read c =
+    let p = err_from_is_err_and c.from_residual.result c.from_residual.ensures.1 in
+    rw (p.1, p.2) (answer (held c.args.stores) c.args.packet _ _ _ c.has_option.ensures c.if-not-has_option.false c.get_first_option.ensures.result_value c.in_err-read.ensures)
 
-pub returns-in-Value : goal.returns-in-Value
-returns-in-Value c =
-    answer (stores c.args.datagram.now c.args.edits.now) c.args.packet _ _ _ c.has_option.ensures c.if-not-has_option.false c.get_first_option.ensures.result_value c.in-Value.ensures
+pub returns : goal.returns
+returns c =
+    answer (held c.args.stores) c.args.packet _ _ _ c.has_option.ensures c.if-not-has_option.false c.get_first_option.ensures.result_value c.in_ok-read.ensures

@@ -22,4 +22,4 @@ returns c =
     let a = c.args in
     let bytes : uint 8 a.format ≡ uint 2 a.format = uint_enough 2 6 a.format (omega (arith, c.ranges.format)) in
     sets_edit a.packet (added a.packet 12 (range_at a.start (uint 2 a.format))) a.start (uint 2 a.format) (uint 8 a.format) a.edits.now c.add_option-edit.result _ _
-    (c.add_option-edit.ensures ∙ ap (λ (n : ℕ). beside a.packet (added a.packet 12 (record { home = Edits; start = a.start; len = n }))) (c.uint_length-len.ensures ∙ ap length bytes)) bytes c.put_value.ensures
+    (c.add_option-edit.ensures ∙ ap (λ (n : ℕ). beside a.packet (added a.packet 12 (record { home = Edits; start = a.start; len = n }))) (c.uint_length-len.ensures ∙ ap length bytes)) bytes (c.put_value.ensures a.packet)

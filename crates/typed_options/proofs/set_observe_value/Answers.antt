@@ -23,4 +23,4 @@ returns c =
     let a = c.args in
     let bytes : uint 8 a.value ≡ uint 4 a.value = uint_enough 4 4 a.value (omega (arith, c.ranges.value)) in
     sets_edit a.packet (option_set a.packet 6 (range_at a.start (uint 4 a.value) ∷ [])) a.start (uint 4 a.value) (uint 8 a.value) a.edits.now c.set_option-edit.result _ _
-    (c.set_option-edit.ensures ∙ ap (λ (n : ℕ). beside a.packet (option_set a.packet 6 (record { home = Edits; start = a.start; len = n } ∷ []))) (c.uint_length-len.ensures ∙ ap length bytes)) bytes c.put_value.ensures
+    (c.set_option-edit.ensures ∙ ap (λ (n : ℕ). beside a.packet (option_set a.packet 6 (record { home = Edits; start = a.start; len = n } ∷ []))) (c.uint_length-len.ensures ∙ ap length bytes)) bytes (c.put_value.ensures a.packet)

@@ -1,12 +1,8 @@
 -- `bad_numbers`: the records passed are good.
-use Prim.Native.Nat.{◌-◌, ◌≤◌}
 use mathlib.Core.Path.{◌≡◌}
 use mathlib.Core.Bool.{false}
 use Rattle.unflat.specs.Unflat.{bad_numbers}
 use Rattle.unflat.proofs.bad_numbers.Given as goal
 
 abbrev pub invariant-loop-i : goal.invariant-loop-i
-invariant-loop-i l = (l.i ≤ l.count) × (bad_numbers l.numbers l.i ≡ false)
-
-abbrev pub decreases-loop-i : goal.decreases-loop-i
-decreases-loop-i l = l.count - l.i
+invariant-loop-i l = bad_numbers l.numbers l.i ≡ false

@@ -19,7 +19,7 @@ pub bounds-numbers-10 : goal.bounds-numbers-10
 bounds-numbers-10 c = omega (arith, (good _ c.requires).head)
 
 pub loop-i-init : goal.loop-i-init
-loop-i-init c = ((omega arith, (small _ (good _ c.requires).fields).count), refl)
+loop-i-init c = ((small _ (good _ c.requires).fields).count, refl)
 
 pub record_in-requires : goal.record_in-requires
 record_in-requires c =
@@ -28,7 +28,7 @@ record_in-requires c =
 
 pub loop-i-preserved : goal.loop-i-preserved
 loop-i-preserved c =
-    (omega arith, rw c.record_in.ensures (one_more _ _ c.loop-i.i (omega arith) c.loop-i.invariant.1))
+    (c.loop-i.invariant.0, rw c.record_in.ensures (one_more _ _ c.loop-i.i (omega arith) c.loop-i.invariant.1))
 
 pub returns : goal.returns
 unfolding packet_in

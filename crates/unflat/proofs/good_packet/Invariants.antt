@@ -1,11 +1,8 @@
 -- `good_packet`: the records passed stand in the array's first places.
-use Prim.Native.Nat.{◌-◌, ◌≤◌}
+use Prim.Native.Nat.{◌≤◌}
 use mathlib.Core.Path.{◌≡◌}
 use Rattle.unflat.proofs.Unflat.{up_to}
 use Rattle.unflat.proofs.good_packet.Given as goal
 
 abbrev pub invariant-loop-i : goal.invariant-loop-i
-invariant-loop-i l = ((l.i ≤ l.count) × (l.count ≤ 128)) × (l.options ≡ up_to l.numbers l.i)
-
-abbrev pub decreases-loop-i : goal.decreases-loop-i
-decreases-loop-i l = l.count - l.i
+invariant-loop-i l = (l.count ≤ 128) × (l.options ≡ up_to l.numbers l.i)

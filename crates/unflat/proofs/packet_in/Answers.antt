@@ -7,7 +7,7 @@ use Rattle.unflat.proofs.packet_in.Goals as goal
 
 pub returns-then-bad_flat : goal.returns-then-bad_flat
 unfolding unflat
-returns-then-bad_flat c = rw (sym c.bad_flat.ensures ∙ c.if-bad_flat.true, c.new.ensures)
+returns-then-bad_flat c = rw (sym c.bad_flat.ensures ∙ c.if-bad_flat.true)
 
 pub bounds-numbers-10 : goal.bounds-numbers-10
 bounds-numbers-10 c = omega (arith, (good _ (sym c.bad_flat.ensures ∙ c.if-bad_flat.false)).head)

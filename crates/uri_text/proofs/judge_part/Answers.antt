@@ -1,32 +1,43 @@
 -- `judge_part` meets its contract: the whole is judged as what is left (`Judging`).
-use Prim.Native.Nat.{◌-◌}
-use mathlib.Core.Path.{subst, ◌∙◌}
+use mathlib.Core.Path.{◌≡◌, sym, ap, subst, ◌∙◌}
 use native.Mathlib.Omega.{arith}
-use borrow.Author.Rules.{rules}
-use lib.ListN.{length}
+use Rattle.std.specs.Prelude.{Some, Ok}
+use Rattle.std.specs.Result.{result_ok}
+use Rattle.std.proofs.lemmas.Result.{err_from_is_err_and}
 use Rattle.percent.specs.Step.{kind_of}
-use Rattle.percent.proofs.Stepping.{took, ended, stopped}
-use Rattle.uri_text.specs.Judging.{LeftDue}
-use Rattle.uri_text.proofs.Judging.{Judging, judging_start, judging_bad, judging_never, judging_turn, judging_end}
+use Rattle.percent.proofs.Chars.{asked}
+use Rattle.percent.proofs.Stepping.{Took, took, ended, stopped}
+use Rattle.rfc.specs.Percent.{any}
+use Rattle.utf8.specs.Row.{LeftDue}
+use Rattle.uri_text.proofs.Judging.{judging_start, judging_bad, judging_never, judging_turn, judging_end}
+use Rattle.uri_text.proofs.judge_part.Goals.{In-Some}
 use Rattle.uri_text.proofs.judge_part.Goals as goal
 
-pub loop-b-init : goal.loop-b-init
-loop-b-init c = judging_start _ _ _
+-- The byte that was taken, with the rest after it.
+taken : (c : In-Some) → Took (kind_of c.args.kind) any c.args.part.now c.loop-step.i c.in-Some.coded.byte c.in-Some.coded.next
+taken c = took _ _ _ _ _ c.byte_at.ensures (c.in-Ok.is ∙ ap Ok c.in-Some.is)
 
-pub returns-in-Bad : goal.returns-in-Bad
-returns-in-Bad c = judging_bad _ _ _ _ _ _ _ _ _ c.loop-b.invariant (stopped _ _ _ _ c.byte_at.ensures c.in-Bad.is)
+pub loop-step-init : goal.loop-step-init
+loop-step-init c = judging_start _ _ _
 
-pub returns-in-End : goal.returns-in-End
-returns-in-End c = c.judge_end.ensures ∙ judging_end _ _ _ _ _ _ _ _ _ c.loop-b.invariant (ended _ _ _ _ c.byte_at.ensures c.in-End.is)
+pub returns-in_default : goal.returns-in_default
+returns-in_default c = judging_bad _ _ _ _ _ _ _ _ _ c.loop-step.invariant (stopped _ _ _ _ _ c.byte_at.ensures c.in_default.is)
 
-pub returns-in-Never : goal.returns-in-Never
-returns-in-Never c = judging_never _ _ _ _ _ _ _ _ _ c.loop-b.invariant _ _ (took _ _ _ _ _ _ c.byte_at.ensures c.in-Byte.is) (subst (LeftDue _ _ _ _) c.in-Never.is c.next_due.ensures).is
+pub returns-in_default-step : goal.returns-in_default-step
+returns-in_default-step c = c.judge_end.ensures ∙ judging_end _ _ _ _ _ _ _ _ _ c.loop-step.invariant (ended _ _ _ _ c.byte_at.ensures (c.in-Ok.is ∙ ap Ok c.in_default-step.is))
 
-pub loop-b-smaller : goal.loop-b-smaller
-loop-b-smaller c = let t = took _ _ _ _ _ _ c.byte_at.ensures c.in-Byte.is in omega (arith, t.ahead, t.inside)
+pub returns-in_err-due : goal.returns-in_err-due
+returns-in_err-due c =
+    let a = asked c.after.result (sym c.ok_or.ensures.value ∙ c.in_err-due.was) in
+    let p = err_from_is_err_and c.from_residual.result c.from_residual.ensures.1 in
+    rw (p.1, p.2, a.1)
+    (judging_never _ _ _ _ _ _ _ _ _ c.loop-step.invariant _ _ (taken (goal.at.returns-in_err-due c).In-Some) (subst (LeftDue _ _) a.0 c.after.ensures).is)
 
-pub loop-b-preserved : goal.loop-b-preserved
-loop-b-preserved c =
+pub loop-step-smaller : goal.loop-step-smaller
+loop-step-smaller c = let t = taken (goal.at.loop-step-smaller c).In-Some in omega (arith, t.ahead, t.inside)
+
+pub loop-step-preserved : goal.loop-step-preserved
+loop-step-preserved c =
+    let left : c.after.result ≡ Some c.in_ok-due.due = c.ok_or.ensures.ok_part ∙ ap result_ok c.in_ok-due.was in
     rw c.only_dots-only.ensures
-    (judging_turn _ _ _ _ _ _ _ _ _ c.loop-b.invariant _ _ _ _ _ (took _ _ _ _ _ _ c.byte_at.ensures c.in-Byte.is)
-    (subst (LeftDue _ _ _ _) c.in-Due.is c.next_due.ensures).is)
+    (judging_turn _ _ _ _ _ _ _ _ _ c.loop-step.invariant _ _ _ _ _ (taken (goal.at.loop-step-preserved c).In-Some) (subst (LeftDue _ _) left c.after.ensures).is)

@@ -1,7 +1,5 @@
 -- `judge_path` meets its contract: by its first character.
-use mathlib.Core.Path.{◌∙◌}
-use Rattle.uri_text.proofs.Tallying.{path_none, path_bad, path_slash}
-use borrow.Author.Rules.{rules}
+use Rattle.uri_text.proofs.Tallying.{path_none, path_bad}
 use Rattle.uri_text.proofs.judge_path.Goals as goal
 
 pub returns-then-path-eq0 : goal.returns-then-path-eq0

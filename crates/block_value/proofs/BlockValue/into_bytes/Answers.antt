@@ -3,7 +3,6 @@ use native.Mathlib.Omega.{arith}
 use Rattle.block_value.specs.Answers.{meant}
 use Rattle.block_value.specs.Plain.{plain_bytes}
 use Rattle.block_value.proofs.PlainLaws.{kept_below}
-use borrow.Author.Rules.{rules}
 use Rattle.block_value.proofs.BlockValue.into_bytes.Goals as goal
 
 pub overflow_cast-scalar : goal.overflow_cast-scalar

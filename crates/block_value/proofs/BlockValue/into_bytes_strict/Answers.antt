@@ -6,7 +6,6 @@ use Rattle.rfc.proofs.Uint.{uint_enough}
 use Rattle.rfc.proofs.Block.{block_below}
 use Rattle.block_value.specs.Answers.{meant}
 use Rattle.block_value.specs.Strict.{strict_writing}
-use borrow.Author.Rules.{rules}
 use Rattle.block_value.proofs.BlockValue.into_bytes_strict.Goals as goal
 
 pub returns-then-self-gt6 : goal.returns-then-self-gt6

@@ -1,7 +1,6 @@
 -- `new` judges in the definition's order.
 use borrow.Author.Tests.{eq-eqb, ne_eqb, lt-ltb, le-ltb}
 use Rattle.block_value.specs.Plain.{plain_new}
-use borrow.Author.Rules.{rules}
 use Rattle.block_value.proofs.BlockValue.new.Goals as goal
 
 pub returns-then-size-eq0 : goal.returns-then-size-eq0

@@ -1,11 +1,8 @@
 -- `new_strict` judges in the definition's order; a strict size has its exponent.
-use mathlib.Core.Path.{◌≡◌, sym, ◌∙◌}
+use mathlib.Core.Path.{sym, ◌∙◌}
 use mathlib.Core.Bool.{true}
-use borrow.Author.Tests.{lt-ltb, le-ltb, not-true, not-false}
-use Rattle.ground.specs.Table.{listed}
-use Rattle.block_value.specs.Strict.{strict_new, strict_sizes}
-use Rattle.block_value.proofs.Sizes.{strict_size}
-use borrow.Author.Rules.{rules}
+use borrow.Author.Tests.{lt-ltb, le-ltb}
+use Rattle.block_value.specs.Strict.{strict_new}
 use Rattle.block_value.proofs.BlockValue.new_strict.Goals as goal
 
 pub returns-then-not-is_strict_size : goal.returns-then-not-is_strict_size

@@ -1,20 +1,20 @@
 -- `try_from` reads a uint of at most two bytes and hands on its block.
 use native.Mathlib.Omega.{arith}
+use borrow.Author.Rules.{rules}
 use Rattle.option_value.proofs.Uints.{read_narrow}
 use Rattle.block_value.specs.Plain.{plain_reading}
-use borrow.Author.Rules.{rules}
 use Rattle.block_value.proofs.BlockValue.try_from.Goals as goal
 
-pub overflow_cast-number : goal.overflow_cast-number
-overflow_cast-number c =
-    omega (arith, read_narrow 2 _ _ c.args.value.now c.type_inv.value c.option_to_uint.ensures c.in-Number.is)
+pub overflow_cast-read : goal.overflow_cast-read
+overflow_cast-read c =
+    omega (arith, read_narrow 2 c.args.value.now c.type_inv.value c.option_to_uint.ensures c.in_ok-read.was)
 
-pub returns-in-Number : goal.returns-in-Number
+pub returns-in_err-read : goal.returns-in_err-read
 unfolding plain_reading
-returns-in-Number c =
-    rw (← c.option_to_uint.ensures, c.in-Number.is, c.block_of.ensures)
+returns-in_err-read c =
+    rw (← c.option_to_uint.ensures, c.in_err-read.was) (search rules)
 
-pub returns-in-Refused : goal.returns-in-Refused
+pub returns : goal.returns
 unfolding plain_reading
-returns-in-Refused c =
-    rw (← c.option_to_uint.ensures, c.in-Refused.is)
+returns c =
+    rw (← c.option_to_uint.ensures, c.in_ok-read.was, c.block_of.ensures)

@@ -1,6 +1,5 @@
 -- `Header::from_raw`: type and class by their own functions.
 use Rattle.header.specs.Header.{header_of}
-use borrow.Author.Rules.{rules}
 use Rattle.header.proofs.Header.from_raw.Goals as goal
 
 pub returns : goal.returns

@@ -1,8 +1,6 @@
 -- `HeaderRaw::try_from`: the test of the length, then the four bytes.
-use native.Mathlib.Omega.{arith}
 use borrow.Author.Tests.{lt-ltb, le-ltb}
 use Rattle.header.specs.Header.{raw_in}
-use borrow.Author.Rules.{rules}
 use Rattle.header.proofs.HeaderRaw.try_from.Goals as goal
 
 pub returns-then-buf-lt4 : goal.returns-then-buf-lt4

@@ -2,11 +2,7 @@
 use mathlib.Core.Path.{sym, ◌∙◌}
 use native.Mathlib.Omega.{arith}
 use Rattle.peer_reading.proofs.Grouping.{gap_found, gap_later, gap_end}
-use borrow.Author.Rules.{rules}
-use Prim.Native.Nat.{◌+◌, ◌-◌, ◌≤◌}
-use mathlib.Core.Path.{◌≡◌}
-use lib.ListN.{length, drop}
-use Rattle.peer_reading.specs.Reading.{gap_in}
+use Prim.Native.Nat.{◌-◌}
 use Rattle.peer_reading.proofs.groups.gap_in.Goals as goal
 
 pub returns-then-colons_at : goal.returns-then-colons_at

@@ -1,8 +1,4 @@
 -- `gap_in`: what was passed, and what the rest has before `::`, is what the whole has.
-use mathlib.Core.Path.{sym, ◌∙◌}
-use native.Mathlib.Omega.{arith}
-use Rattle.peer_reading.proofs.Grouping.{gap_found, gap_later, gap_end}
-use borrow.Author.Rules.{rules}
 use Prim.Native.Nat.{◌+◌, ◌-◌, ◌≤◌}
 use mathlib.Core.Path.{◌≡◌}
 use lib.ListN.{length, drop}
@@ -11,6 +7,3 @@ use Rattle.peer_reading.proofs.groups.gap_in.Given as goal
 
 abbrev pub invariant-loop-i : goal.invariant-loop-i
 invariant-loop-i l = (l.i ≤ length l.text) × (l.i + gap_in (drop l.i l.text) ≡ gap_in l.text)
-
-abbrev pub decreases-loop-i : goal.decreases-loop-i
-decreases-loop-i l = length l.text - l.i

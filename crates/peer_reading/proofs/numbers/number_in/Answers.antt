@@ -1,7 +1,6 @@
 -- `number_in`: a zero first is refused, and any other text is read.
 use mathlib.Core.Path.{sym, ◌∙◌}
 use Rattle.peer_reading.proofs.Numbered.{numeral_zero, numeral_is}
-use borrow.Author.Rules.{rules}
 use Rattle.peer_reading.proofs.numbers.number_in.Goals as goal
 
 pub returns-then-zero_first : goal.returns-then-zero_first

@@ -3,10 +3,10 @@ use mathlib.Core.Path.{sym, ◌∙◌}
 use Rattle.register.specs.Register.{is_recognised}
 use Rattle.register.proofs.row.is_recognised.Goals as goal
 
-pub returns-in-Listed : goal.returns-in-Listed
+pub returns-in-Some : goal.returns-in-Some
 unfolding is_recognised
-returns-in-Listed c = rw (sym c.row_of.ensures ∙ c.in-Listed.is) c.recognises.ensures
+returns-in-Some c = rw (sym c.row_of.ensures ∙ c.in-Some.is) c.recognises.ensures
 
-pub returns-in-Unlisted : goal.returns-in-Unlisted
+pub returns-in-None : goal.returns-in-None
 unfolding is_recognised
-returns-in-Unlisted c = rw (sym c.row_of.ensures ∙ c.in-Unlisted.is)
+returns-in-None c = rw (sym c.row_of.ensures ∙ c.in-None.is)

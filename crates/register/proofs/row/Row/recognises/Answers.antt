@@ -15,18 +15,18 @@ again true true e = refl
 again true false e = refl
 again false repeatable e = cc
 
-pub returns-then-len-shortest : goal.returns-then-len-shortest
+pub returns-then-len-self : goal.returns-then-len-self
 unfolding recognised
-returns-then-len-shortest c = rw (lt-leb _ _ c.if-len-shortest.true)
+returns-then-len-self c = rw (lt-leb _ _ c.if-len-self.true)
 
-pub returns-then-longest-len : goal.returns-then-longest-len
+pub returns-then-self-len : goal.returns-then-self-len
 unfolding recognised
-returns-then-longest-len c = rw (le-leb _ _ c.if-len-shortest.false, lt-leb _ _ c.if-longest-len.true)
+returns-then-self-len c = rw (le-leb _ _ c.if-len-self.false, lt-leb _ _ c.if-self-len.true)
 
 pub returns-then-not-before : goal.returns-then-not-before
 unfolding recognised
-returns-then-not-before c = rw (le-leb _ _ c.if-len-shortest.false, le-leb _ _ c.if-longest-len.false) (first c.args.before c.args.self.3 c.if-not-before.true)
+returns-then-not-before c = rw (le-leb _ _ c.if-len-self.false, le-leb _ _ c.if-self-len.false) (first c.args.before c.args.self.repeatable c.if-not-before.true)
 
 pub returns-else-not-before : goal.returns-else-not-before
 unfolding recognised
-returns-else-not-before c = rw (le-leb _ _ c.if-len-shortest.false, le-leb _ _ c.if-longest-len.false) (again c.args.before c.args.self.3 c.if-not-before.false)
+returns-else-not-before c = rw (le-leb _ _ c.if-len-self.false, le-leb _ _ c.if-self-len.false) (again c.args.before c.args.self.repeatable c.if-not-before.false)

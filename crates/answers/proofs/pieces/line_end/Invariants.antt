@@ -1,6 +1,0 @@
--- `line_end` ends: each turn goes a byte on.
-use Rattle.std.proofs.Common.{length, ◌-◌}
-use Rattle.answers.proofs.pieces.line_end.Given as goal
-
-abbrev pub decreases-loop-i : goal.decreases-loop-i
-decreases-loop-i l = length l.piece - l.i

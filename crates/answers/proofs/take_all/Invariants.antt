@@ -1,5 +1,0 @@
--- `take_all` ends: its turns count down from a number that no input reaches.
-use Rattle.answers.proofs.take_all.Given as goal
-
-abbrev pub decreases-loop-left : goal.decreases-loop-left
-decreases-loop-left l = l.left

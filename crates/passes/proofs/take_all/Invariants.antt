@@ -1,6 +1,0 @@
--- `take_all` ends: each turn counts a window, up to a number that no stream reaches.
-use Rattle.std.proofs.Common.{◌-◌}
-use Rattle.passes.proofs.take_all.Given as goal
-
-abbrev pub decreases-loop-windows : goal.decreases-loop-windows
-decreases-loop-windows l = 1000000000000000 - l.windows

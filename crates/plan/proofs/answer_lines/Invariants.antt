@@ -1,6 +1,0 @@
--- `answer_lines` ends: each turn counts a line, of which a text has no more than bytes.
-use Rattle.std.proofs.Common.{length, ◌-◌}
-use Rattle.plan.proofs.answer_lines.Given as goal
-
-abbrev pub decreases-loop-i : goal.decreases-loop-i
-decreases-loop-i l = length l.text - l.i

@@ -1,7 +1,0 @@
--- `put_values` is safe and ends: each turn puts a number.
-use Prim.Native.Nat.{◌-◌}
-use lib.ListN.{length}
-use Rattle.plan_requests.proofs.made.put_values.Given as goal
-
-abbrev pub decreases-loop-i : goal.decreases-loop-i
-decreases-loop-i l = length l.list - l.i

@@ -1,9 +1,0 @@
--- `records_at` is safe and ends: each turn reads a record.
-use Prim.Native.Nat.{◌-◌, ◌≤◌}
-use Rattle.raw_words.proofs.read.records_at.Given as goal
-
-abbrev pub invariant-loop-i : goal.invariant-loop-i
-invariant-loop-i l = l.i ≤ 128
-
-abbrev pub decreases-loop-i : goal.decreases-loop-i
-decreases-loop-i l = 128 - l.i
