@@ -2,13 +2,13 @@
 #![tactic(auto)]
 
 ghost use Rattle.std.specs.Prelude.{◌≡◌, ◌<◌, ◌^◌};
-ghost use Rattle.chunk_judging.specs.Chunks.{offset, gathered, Lies};
+ghost use Rattle.chunk_judging.specs.Chunks.{offset, gathered, past, Lies};
 
 use option_reading::ByteSource;
 use stream::Form;
 
 // Where a byte of a datagram stands, from the start of its chunks.
-pub fn offset_of(form: Form, i: usize) -> usize
+fn offset_of(form: Form, i: usize) -> usize
     requires { i < 2 ^ 63 }
     ensures { result ≡ offset form i }
 {
@@ -16,6 +16,22 @@ pub fn offset_of(form: Form, i: usize) -> usize
         Form::Old => i / 30 * 32 + 2 + i % 30,
         Form::New => i / 64 * 65 + 1 + i % 64,
     }
+}
+
+// Whether the last byte of a datagram lies past the stream.
+pub fn past(form: Form, stream: &[u8], from: usize, len: usize) -> bool
+    ensures { result ≡ past form stream.now from len }
+{
+    if len < 1 {
+        return false;
+    }
+    if stream.len() < from {
+        return true;
+    }
+    if stream.len() - from < len {
+        return true;
+    }
+    stream.len() - from <= offset_of(form, len - 1)
 }
 
 // Where a datagram lies: the form and the start of its chunks, how many bytes it has, and the stream. It is not too long to be read,
@@ -37,6 +53,9 @@ impl<'a> ByteSource for Datagram<'a> {
     }
 
     fn byte_at(self, idx: usize) -> usize {
+        if self.len <= idx {
+            return 0;
+        }
         let form = self.form;
         let place = self.from + offset_of(form, idx);
         self.stream[place] as usize

@@ -9,10 +9,10 @@ ghost use Rattle.refusal.specs.Answer.{outcome};
 ghost use Rattle.packet.specs.Limits.{max_options};
 ghost use Rattle.cursor.specs.Cursor.{accepting};
 ghost use Rattle.framing.specs.Judging.{options_judged};
-ghost use Rattle.chunk_judging.specs.Chunks.{past, JudgesChunks};
+ghost use Rattle.chunk_judging.specs.Chunks.{JudgesChunks};
 ghost use Rattle.chunk_judging.specs.Walk.{bytes_of};
 
-use datagram::{Datagram, offset_of};
+use datagram::{Datagram, past};
 use option_reading::{Found, place_at};
 use packet::limits::{MAX_OPTIONS, MAX_STORE, MAX_VALUE};
 use reading::{marker_alone, opening};
@@ -39,22 +39,6 @@ pub fn judge_chunks(form: Form, stream: &[u8], from: usize, len: usize) -> Resul
         len,
         stream,
     })
-}
-
-// Whether the last byte of a datagram lies past the stream.
-fn past(form: Form, stream: &[u8], from: usize, len: usize) -> bool
-    ensures { result ≡ past form stream.now from len }
-{
-    if len < 1 {
-        return false;
-    }
-    if stream.len() < from {
-        return true;
-    }
-    if stream.len() - from < len {
-        return true;
-    }
-    stream.len() - from <= offset_of(form, len - 1)
 }
 
 // A datagram that lies in its stream, judged. Header and token are in one piece, since the shortest full chunk has 30 bytes.

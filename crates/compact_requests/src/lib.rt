@@ -19,11 +19,7 @@ pub fn is_named(name: &[u8]) -> bool {
 // compact ROOM RAW
 pub fn answer(line: &mut Line, store: &mut [u8], room: &mut [u8], page: &mut Page) -> Option<()> {
     let second = line.room(room)?;
-    let Raw {
-        packet,
-        datagram,
-        edits,
-    } = read_raw(line, store)?;
+    let (Raw { packet, datagram }, edits) = read_raw(line, store)?;
     line.finished()?;
     fill(second);
     let packet = match compact(packet, datagram, edits, second) {

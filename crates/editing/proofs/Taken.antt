@@ -26,7 +26,7 @@ use Rattle.judging.proofs.Order.{in_order}
 use Rattle.judging.proofs.Places.{spanned_not, from_misordered}
 
 module _ (p : Packet) (a : Answer Packet) where
-  not_taken : misordered p ≡ true → beside p (refused 11) ≡ beside p (orderly p a)
+  pub not_taken : misordered p ≡ true → beside p (refused 11) ≡ beside p (orderly p a)
   not_taken e = rw e refl
 
   pub taken : misordered p ≡ false → beside p a ≡ beside p (orderly p a)
@@ -34,7 +34,7 @@ module _ (p : Packet) (a : Answer Packet) where
 
 -- The same where the edit's ranges come as numbers: a bad home and a bad order give one refusal.
 module _ (p : Packet) (l : List ℕ) (edit : List Range → Answer Packet) where
-  homed_not_taken : misordered p ≡ true → beside p (refused 11) ≡ beside p (homed l (λ ranges. orderly p (edit ranges)))
+  pub homed_not_taken : misordered p ≡ true → beside p (refused 11) ≡ beside p (homed l (λ ranges. orderly p (edit ranges)))
   homed_not_taken e =
       on (λ (a : Answer Packet). beside p (refused 11) ≡ beside p a) (homeless l) (λ _. refl) (λ _. not_taken p (edit (ranges_in l)) e)
 

@@ -47,11 +47,13 @@ fn show(rt: &HostRuntime) -> Result<(), Failure> {
     };
     match in_english(stores, &mut out) {
         Err(why) => writeln!(page, "{}", Numbered(why)),
-        Ok(length) => {
-            let bytes = out.get(..length).unwrap_or(b"");
-            page.put(|out, at| put_hex(out, at, bytes));
-            page.put_bytes(b"\n");
-        }
+        Ok(length) => put_line(&mut page, out.get(..length).unwrap_or(b"")),
     }
     page.finish()
+}
+
+// Puts bytes as hexadecimal digits, and ends the line.
+fn put_line(page: &mut Page, bytes: &[u8]) {
+    page.place = put_hex(page.bytes, page.place, bytes);
+    page.put_bytes(b"\n");
 }

@@ -21,9 +21,8 @@ pub trait ByteSource: Copy {
     fn count(self) -> usize
         ensures { result ≡ length (bytes self) };
 
-    // The one at a position.
+    // The one at a position; 0 past the last.
     fn byte_at(self, idx: usize) -> usize
-        requires { idx < length (bytes self) }
         ensures { ByteAt (bytes self) idx result };
 }
 
@@ -35,7 +34,7 @@ impl<'a> ByteSource for &'a [u8] {
     }
 
     fn byte_at(self, idx: usize) -> usize {
-        self[idx] as usize
+        byte_at(self, idx)
     }
 }
 
@@ -189,10 +188,12 @@ fn extended<B: ByteSource>(
     Err(over)
 }
 
-// A byte at a position.
+// A byte at a position; 0 past the last.
 pub fn byte_at(buf: &[u8], idx: usize) -> usize
-    requires { idx < length buf.now }
     ensures { ByteAt buf.now idx result }
 {
+    if buf.len() <= idx {
+        return 0;
+    }
     buf[idx] as usize
 }

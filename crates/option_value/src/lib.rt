@@ -1,7 +1,7 @@
 // Convenience types for option values: uints of four widths, and text.
 #![tactic(auto)]
 
-ghost use Rattle.std.specs.Prelude.{◌≡◌, ℕ, ◌<◌, ◌≤◌, ◌^◌, length};
+ghost use Rattle.std.specs.Prelude.{◌≡◌, ℕ, ◌<◌, ◌≤◌, ◌%◌, ◌^◌, length};
 ghost use Rattle.std.proofs.Common.{lit≤};
 ghost use Rattle.rfc.specs.Uint.{uint};
 ghost use Rattle.refusal.specs.Answer.{written, fitted, after};
@@ -61,13 +61,14 @@ pub trait Width: Copy {
     // The number that a value is.
     ghost number_of: { Self → ℕ };
 
+    // Its number, in the widest.
     fn widened(self) -> u64
         ensures result_value { result ≡ number_of self }
         ensures fits { result < 256 ^ BYTES };
 
+    // The value of a number's low bytes, which is its own where it has no more than those.
     fn narrowed(number: u64) -> Self
-        requires { number < 256 ^ BYTES }
-        ensures { number_of result ≡ number };
+        ensures { number_of result ≡ number % 256 ^ BYTES };
 
     // No width is over that of the widest.
     ghost at_most_eight: { BYTES ≤ 8 };
@@ -85,7 +86,7 @@ impl Width for u8 {
     }
 
     fn narrowed(number: u64) -> u8 {
-        number as u8
+        (number % 256) as u8
     }
 
     ghost at_most_eight = { lit≤ tt };
@@ -103,7 +104,7 @@ impl Width for u16 {
     }
 
     fn narrowed(number: u64) -> u16 {
-        number as u16
+        (number % 65536) as u16
     }
 
     ghost at_most_eight = { lit≤ tt };
@@ -121,7 +122,7 @@ impl Width for u32 {
     }
 
     fn narrowed(number: u64) -> u32 {
-        number as u32
+        (number % 4294967296) as u32
     }
 
     ghost at_most_eight = { lit≤ tt };

@@ -39,7 +39,8 @@ pub struct Stores<'a> {
 impl<'a> Stores<'a> {
     // Those of a packet that was read, which needs no edit store.
     pub fn of(datagram: &'a [u8]) -> Stores<'a>
-        ensures { held result ≡ stores datagram.now [] }
+        ensures bytes { held result ≡ stores datagram.now [] }
+        ensures place { result.datagram.ref_ptr ≡ datagram.entry.ref_ptr }
     {
         Stores {
             datagram,

@@ -77,7 +77,7 @@ impl Work for Show {
 
 fn show_datagram(page: &mut Page, datagram: &[u8]) -> Result<(), Refusal> {
     let read = from_bytes_strict(datagram);
-    page.put(|out, at| put_decoded(out, at, read, datagram, b'\n'));
+    page.place = put_decoded(page.bytes, page.place, read, datagram, b'\n');
     read.map(|_| ())
 }
 
@@ -85,7 +85,7 @@ fn show_datagram(page: &mut Page, datagram: &[u8]) -> Result<(), Refusal> {
 fn put_peer_line(page: &mut Page, message: &[u8]) {
     let peer = peer_of(message);
     page.put_bytes(b"peer ");
-    page.put(|out, at| put_peer(out, at, peer));
+    page.place = put_peer(page.bytes, page.place, peer);
     page.put_bytes(b"\n");
 }
 

@@ -4,11 +4,18 @@ use reports::Page;
 
 // record 11, 2 bytes, text ab
 pub fn put_record(page: &mut Page, number: u16, value: &[u8]) {
-    let count = value.len();
-    let unit = if count == 1 { "byte" } else { "bytes" };
-    write!(page, "record {number}, {count} {unit}, ");
+    page.put_number(b"record ", number as u64);
+    page.put_number(b", ", value.len() as u64);
+    page.put_bytes(unit_of(value.len()));
     put_value(page, value);
     page.put_bytes(b"\n");
+}
+
+fn unit_of(count: usize) -> &'static [u8] {
+    match count {
+        1 => b" byte, ",
+        _ => b" bytes, ",
+    }
 }
 
 // Puts a value as text where each byte is a space or a printable ASCII character, or else as hexadecimal digits.
@@ -20,14 +27,14 @@ fn put_value(page: &mut Page, value: &[u8]) {
         page.put_bytes(value);
     } else {
         page.put_bytes(b"hex ");
-        page.put(|out, at| put_hex(out, at, value));
+        page.place = put_hex(page.bytes, page.place, value);
     }
 }
 
 // options b2616202c3a9
 pub fn put_wire(page: &mut Page, options: &[u8]) {
     page.put_bytes(b"options ");
-    page.put(|out, at| put_hex(out, at, options));
+    page.place = put_hex(page.bytes, page.place, options);
     page.put_bytes(b"\n");
 }
 

@@ -46,20 +46,24 @@ pub fn put_blocks(page: &mut Page, size: usize, values: &[u32]) -> Result<(), Fa
 
 // block 3, more, size 16, bytes 48 to 63, option 38
 fn put_block(page: &mut Page, image: u64, value: u32) {
-    let number = value / 16;
-    let which = if value / 8 % 2 == 1 { "more" } else { "last" };
-    let size = size_of(value);
-    let first = first_of(value);
-    let last = last_of(image, value);
-    write!(
-        page,
-        "block {number}, {which}, size {size}, bytes {first} to {last}, option "
-    );
+    page.put_number(b"block ", (value / 16) as u64);
+    page.put_bytes(which_of(value));
+    page.put_number(b", size ", size_of(value));
+    page.put_number(b", bytes ", first_of(value));
+    page.put_number(b" to ", last_of(image, value));
+    page.put_bytes(b", option ");
     let mut bytes = [0u8; 8];
     let count = put_uint(&mut bytes, 0, value as u64);
     let option = bytes.get(..count).unwrap_or(b"");
-    page.put(|out, at| put_hex(out, at, option));
+    page.place = put_hex(page.bytes, page.place, option);
     page.put_bytes(b"\n");
+}
+
+fn which_of(value: u32) -> &'static [u8] {
+    match value / 8 % 2 {
+        1 => b", more",
+        _ => b", last",
+    }
 }
 
 // The last byte of a block that is in the image.

@@ -13,9 +13,9 @@ use words::Line;
 // get-raw NUMBERS RAW, with a dash for no numbers
 pub fn get(line: &mut Line, store: &mut [u8], page: &mut Page) -> Option<()> {
     let asked = read_asked(line)?;
-    let raw = read_raw(line, store)?;
+    let (raw, edits) = read_raw(line, store)?;
     line.finished()?;
-    write_getters(page, asked, raw.held());
+    write_getters(page, asked, raw.held(edits));
     Some(())
 }
 
@@ -31,11 +31,7 @@ fn read_asked<'l>(line: &mut Line<'l>) -> Option<Option<Line<'l>>> {
 
 // edit-raw RAW ; STEP ; STEP. No step of a raw one looks at the datagram.
 pub fn edit(line: &mut Line, store: &mut [u8], page: &mut Page) -> Option<()> {
-    let Raw {
-        packet,
-        datagram,
-        edits,
-    } = read_raw(line, store)?;
+    let (Raw { packet, datagram }, edits) = read_raw(line, store)?;
     let mut source = Source::new(true, edits);
     let played = play(packet, line, b"", &mut source)?;
     match played.refused {

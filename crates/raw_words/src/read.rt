@@ -14,28 +14,28 @@ pub fn read_range(line: &mut Line, before: u8) -> Option<Range> {
     })
 }
 
-// A raw packet, and its two stores.
-#[derive(Drop)]
+// A raw packet, and its datagram. Its edit store stands beside it, since what is lent to be written can't be copied.
+#[derive(Clone, Copy)]
 pub struct Raw<'s> {
     pub packet: Packet,
     pub datagram: &'s [u8],
-    pub edits: &'s mut [u8],
 }
 
-impl Raw<'_> {
-    pub fn held(&self) -> Held<'_> {
+impl<'s> Raw<'s> {
+    // The packet over its two stores, of which the edit store is given.
+    pub fn held(&self, edits: &'s [u8]) -> Held<'s> {
         Held {
             packet: self.packet,
             stores: Stores {
                 datagram: self.datagram,
-                edits: self.edits,
+                edits,
             },
         }
     }
 }
 
-// Reads the words of a raw packet.
-pub fn read_raw<'s>(line: &mut Line, store: &'s mut [u8]) -> Option<Raw<'s>> {
+// Reads the words of a raw packet, and answers its edit store beside it.
+pub fn read_raw<'s>(line: &mut Line, store: &'s mut [u8]) -> Option<(Raw<'s>, &'s mut [u8])> {
     let (datagram, edits) = store.split_at_mut_checked(EDITS)?;
     let header = read_header(line)?;
     let datagram = line.stored(datagram)?;
@@ -44,7 +44,7 @@ pub fn read_raw<'s>(line: &mut Line, store: &'s mut [u8]) -> Option<Raw<'s>> {
     let options = read_records(line)?;
     let count = line.number(b' ')?;
     let payload = read_range(line, b' ')?;
-    Some(Raw {
+    let raw = Raw {
         packet: Packet {
             header,
             token,
@@ -53,8 +53,8 @@ pub fn read_raw<'s>(line: &mut Line, store: &'s mut [u8]) -> Option<Raw<'s>> {
             payload,
         },
         datagram,
-        edits: edits.get_mut(..size)?,
-    })
+    };
+    Some((raw, edits.get_mut(..size)?))
 }
 
 // Reads a list of records, NUMBER@RANGE with commas between, of which there are at most 128.

@@ -47,18 +47,18 @@ fn write_raw(
 ) -> Option<()> {
     let limit = read_limit(line)?;
     let room = line.room(room)?;
-    let raw = read_raw(line, store)?;
+    let (raw, edits) = read_raw(line, store)?;
     line.finished()?;
     fill(room);
-    let written = write(strict, limit, raw.held(), room);
+    let written = write(strict, limit, raw.held(edits), room);
     write_told(page, written, room);
     Some(())
 }
 
 // register-raw RAW
 fn register(line: &mut Line, store: &mut [u8], page: &mut Page) -> Option<()> {
-    let raw = read_raw(line, store)?;
+    let (raw, edits) = read_raw(line, store)?;
     line.finished()?;
-    write_check(page, raw.held());
+    write_check(page, raw.held(edits));
     Some(())
 }

@@ -34,6 +34,10 @@ impl Work for Judge {
             }
         }
     }
+
+    fn is_said_first(&self) -> bool {
+        true
+    }
 }
 
 // How many messages the rule said what of.
@@ -111,5 +115,9 @@ impl Work for Replay {
             Ok(arrived) => Piece::Message(arrived.next, Ok(())),
             Err(why) => Piece::Refused(why),
         }
+    }
+
+    fn is_said_first(&self) -> bool {
+        true
     }
 }

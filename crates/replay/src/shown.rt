@@ -8,30 +8,28 @@ use tracing::Arrived;
 
 // time 10, peer 192.0.2.1:5683, confirmable, id 5: new
 pub fn put_message(page: &mut Page, arrived: Arrived, verdict: Verdict) {
-    let time = arrived.time;
-    let peer = arrived.peer;
-    let kind = name_of(arrived.kind);
-    let id = arrived.id;
-    let said = said_by(verdict);
-    write!(page, "time {time}, peer ");
-    page.put(|out, at| put_peer(out, at, peer));
-    writeln!(page, ", {kind}, id {id}: {said}");
+    page.put_number(b"time ", arrived.time as u64);
+    page.put_bytes(b", peer ");
+    page.place = put_peer(page.bytes, page.place, arrived.peer);
+    page.put_bytes(kind_of(arrived.kind));
+    page.put_number(b", id ", arrived.id as u64);
+    page.put_bytes(said_by(verdict));
 }
 
-fn name_of(kind: MessageType) -> &'static str {
+fn kind_of(kind: MessageType) -> &'static [u8] {
     match kind {
-        MessageType::Confirmable => "confirmable",
-        MessageType::NonConfirmable => "non-confirmable",
-        MessageType::Acknowledgement => "acknowledgement",
-        MessageType::Reset => "reset",
+        MessageType::Confirmable => b", confirmable",
+        MessageType::NonConfirmable => b", non-confirmable",
+        MessageType::Acknowledgement => b", acknowledgement",
+        MessageType::Reset => b", reset",
     }
 }
 
-fn said_by(verdict: Verdict) -> &'static str {
+fn said_by(verdict: Verdict) -> &'static [u8] {
     match verdict {
-        Verdict::New => "new",
-        Verdict::Duplicate => "duplicate",
-        Verdict::Passed => "passed",
+        Verdict::New => b": new\n",
+        Verdict::Duplicate => b": duplicate\n",
+        Verdict::Passed => b": passed\n",
     }
 }
 

@@ -1,22 +1,39 @@
 // What the programs write: the page that their output waits on, refusals by number and name, what failed, and how far they are.
 #![tactic(auto)]
 
+use decimal::put_decimal;
 use placing::put_bytes;
 use refusal::Refusal;
 use std::fmt::{Display, Formatter};
 use std::io::{IsTerminal, Stdout, Write};
 use std::{fmt, io};
 
-// What failed of reading or writing, and why.
+// What failed of reading or writing, and why; and what is said besides of how many windows, which are 0 where nothing is.
 #[derive(Drop)]
 pub struct Failure {
     what: &'static str,
     why: io::Error,
+    said: &'static str,
+    windows: u64,
 }
 
 impl Failure {
     pub fn new(what: &'static str, why: io::Error) -> Failure {
-        Failure { what, why }
+        Failure {
+            what,
+            why,
+            said: "",
+            windows: 0,
+        }
+    }
+
+    // The same in a window of a long piece of work: how far that is, as `progress` says it, is said after the failure.
+    pub fn in_window(self, said: &'static str, windows: u64) -> Failure {
+        Failure {
+            said,
+            windows,
+            ..self
+        }
     }
 }
 
@@ -29,10 +46,11 @@ impl Display for Failure {
     }
 }
 
-// How a program ends: where reading or writing failed, standard error says what and why.
+// How a program ends: where reading or writing failed, standard error says what and why, and how far the program was.
 pub fn end(rt: &HostRuntime, ended: Result<(), Failure>) {
     if let Err(failure) = ended {
         let _ = eprintln!(rt; "{failure}");
+        progress(rt, failure.said, failure.windows);
     }
 }
 
@@ -61,9 +79,11 @@ impl Display for Numbered {
 #[derive(Drop)]
 pub struct Page<'a> {
     output: Stdout,
-    bytes: &'a mut [u8],
-    // How many of the bytes wait, and how many were written before them.
-    place: usize,
+    // The bytes, and how many of them wait. What puts into an output at a place takes both, and answers the next place:
+    // `page.place = put_peer(page.bytes, page.place, peer);`
+    pub bytes: &'a mut [u8],
+    pub place: usize,
+    // How many were written before them.
     written: u64,
 }
 
@@ -77,16 +97,15 @@ impl<'a> Page<'a> {
         }
     }
 
-    // Puts what a function puts into an output at a place, of which it answers the end.
-    pub fn put<F: FnOnce(&mut [u8], usize) -> usize>(&mut self, put: F)
-        requires { F.IsAlwaysCallable put }
-    {
-        self.place = put(self.bytes, self.place);
-    }
-
     // Puts bytes. What the page has no room for is cut off.
     pub fn put_bytes(&mut self, bytes: &[u8]) {
         self.place = put_bytes(self.bytes, self.place, bytes);
+    }
+
+    // Puts a text and a number. Lines that are many are put by this: `write!` takes each piece of a line through a formatter.
+    pub fn put_number(&mut self, text: &[u8], number: u64) {
+        self.put_bytes(text);
+        self.place = put_decimal(self.bytes, self.place, number);
     }
 
     // Puts a text, for `write!` and `writeln!`, as `put_bytes` does.

@@ -19,9 +19,9 @@ pub struct Input {
 }
 
 impl Input {
-    // Standard input, at any size. One that is closed isn't taken for an empty one: the copy would get its number.
+    // Standard input, at any size.
     pub fn standard(rt: &HostRuntime) -> Result<Input, Failure> {
-        let _open = rt.stdin().as_fd().try_clone_to_owned().map_err(reading)?;
+        ensure_open(rt)?;
         match opened(rt) {
             Some(input) => Ok(input),
             None => copied(rt),
@@ -52,6 +52,13 @@ impl Input {
 
 fn reading(why: io::Error) -> Failure {
     Failure::new("reading the input", why)
+}
+
+// Fails where standard input is closed. That isn't taken for an empty one: the copy would get its number. The descriptor that shows it
+// is closed before anything is opened, since a process may have few of them.
+fn ensure_open(rt: &HostRuntime) -> Result<(), Failure> {
+    let _open = rt.stdin().as_fd().try_clone_to_owned().map_err(reading)?;
+    Ok(())
 }
 
 // The file that standard input is, opened a second time, and the position that standard input has in it. Only a regular file is

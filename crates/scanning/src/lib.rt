@@ -5,12 +5,12 @@
 ghost use Rattle.std.specs.Prelude.{◌≡◌, Bool, ◌+◌, ◌*◌, ◌≤◌, ◌<◌, length, set};
 ghost use Rattle.std.proofs.lemmas.List.Edits.{sets};
 ghost use Rattle.refusal.specs.Answer.{outcome, after};
-ghost use Rattle.option_reading.specs.Answers.{value_of};
+ghost use Rattle.option_reading.specs.Answers.{ByteAt, value_of};
 ghost use Rattle.flat.specs.Flat.{flat_records};
 ghost use Rattle.scanning.specs.Scanning.{extent_of, judged, scanned, flat_read};
 ghost use Rattle.scanning.specs.Plain.{extra, plainly, head_in, start, options_from, spans, Places, stands, Open};
 
-use option_reading::{Extension, Found, byte_at, place_at};
+use option_reading::{Extension, Found, place_at};
 use packet::limits::MAX_OPTIONS;
 use reading::{longest_value, marker_alone, opening};
 use refusal::Refusal;
@@ -226,4 +226,12 @@ fn unjudged(buf: &[u8], idx: usize, nibble: usize) -> Extension
         value: 269 + (byte_at(buf, idx) * 256 + byte_at(buf, idx + 1)),
         next: idx + 2,
     }
+}
+
+// A byte at a position that is known to be inside: option_reading's would test it once more for each byte of a head.
+fn byte_at(buf: &[u8], idx: usize) -> usize
+    requires { idx < length buf.now }
+    ensures { ByteAt buf.now idx result }
+{
+    buf[idx] as usize
 }

@@ -42,10 +42,10 @@ pub fn answer(
 
 // target-write ROOM RAW
 fn write(line: &mut Line, store: &mut [u8], room: &mut [u8], page: &mut Page) -> Option<()> {
-    let raw = read_raw(line, store)?;
+    let (raw, edits) = read_raw(line, store)?;
     line.finished()?;
     fill(room);
-    let held = raw.held();
+    let held = raw.held(edits);
     let written = write_target(held.packet, held.stores, room);
     write_told(page, written, room);
     Some(())

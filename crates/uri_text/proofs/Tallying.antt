@@ -182,13 +182,13 @@ module _ (kind : Kind) (sep passed weight : ℕ) (s : List ℕ) (from count byte
       split_next sep x k ∙ (ap (λ (n : ℕ). take n x ∷ split sep (drop (suc (first_length sep x)) x)) (sym m) ∙ ap (λ (y : List ℕ). take (end - from) x ∷ split sep y) t) in
       ap (λ (ps : List (List ℕ)). tally_from count bytes (values_of kind count ps)) (sym q) ∙ w.all
 
-  walk_text : bad_text ≡ length_of (value_of kind count (take (end - from) (drop from s))) → bad_text ≡ tally_from passed weight (values_of kind passed (parts sep s))
+  pub walk_text : bad_text ≡ length_of (value_of kind count (take (end - from) (drop from s))) → bad_text ≡ tally_from passed weight (values_of kind passed (parts sep s))
   walk_text q =
       by_eq end (length s)
       (λ e. tally_text (value_of kind count (take (end - from) (drop from s))) (good []) count bytes q ∙ here_last e)
       (λ e. tally_text (value_of kind count (take (end - from) (drop from s))) (values_of kind (count + 1) (split sep (drop (end + 1) s))) count bytes q ∙ here_next e)
 
-  walk_option : (i : ℕ) → bad_option i ≡ length_of (value_of kind count (take (end - from) (drop from s))) → bad_option i ≡ tally_from passed weight (values_of kind passed (parts sep s))
+  pub walk_option : (i : ℕ) → bad_option i ≡ length_of (value_of kind count (take (end - from) (drop from s))) → bad_option i ≡ tally_from passed weight (values_of kind passed (parts sep s))
   walk_option i q =
       by_eq end (length s)
       (λ e. tally_option i (value_of kind count (take (end - from) (drop from s))) (good []) count bytes q ∙ here_last e)
@@ -345,7 +345,7 @@ module _ (s : List ℕ) (mark : ℕ) (found : mark ≡ 0 + first_length 0x3F s) 
   text_no_text : PathTally bad_text → bad_text ≡ tally (reading s)
   text_no_text e = tally_bad s (on_good (segments_of (path_of s)) (values_of segment 0)) (moved bad_text e) ∙ ap tally (sym (reading_by s))
 
-  text_option : (i : ℕ) → PathTally (bad_option i) → bad_option i ≡ tally (reading s)
+  pub text_option : (i : ℕ) → PathTally (bad_option i) → bad_option i ≡ tally (reading s)
   text_option i e =
       tally_bad_option i s (on_good (segments_of (path_of s)) (values_of segment 0)) (moved (bad_option i) e) ∙ ap tally (sym (reading_by s))
 

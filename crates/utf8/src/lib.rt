@@ -3,7 +3,7 @@
 
 ghost use Rattle.std.specs.Prelude.{◌≡◌};
 ghost use Rattle.utf8.specs.Walk.{text, lead};
-ghost use Rattle.utf8.specs.Row.{led_by, LeftDue};
+ghost use Rattle.utf8.specs.Row.{led_by, left_due, LeftDue};
 
 // What is due of a character: a count of further bytes, and the lowest and the highest that the next of them may be.
 #[derive(Clone, Copy)]
@@ -40,7 +40,8 @@ impl Due {
 
     // What the byte leaves due that comes next; none where it isn't the one that is due.
     pub fn after(self, b: u8) -> Option<Due>
-        ensures { LeftDue self b result }
+        ensures value { result ≡ left_due self b }
+        ensures text { LeftDue self b result }
     {
         if self.count == 0 {
             return lead_of(b);

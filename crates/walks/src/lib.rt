@@ -5,7 +5,7 @@
 use moving::move_to_front;
 use refusal::Refusal;
 use reports::{Failure, Numbered, Page, progress};
-use reread::Input;
+use reread::{Filled, Input};
 use std::fmt;
 use std::fmt::{Display, Formatter};
 
@@ -47,6 +47,11 @@ pub trait Work {
     // What is said of so many windows of 64 KiB.
     fn said(&self) -> &'static str {
         "passed over"
+    }
+
+    // Whether it is said before the pieces of a window are taken, and not after them.
+    fn is_said_first(&self) -> bool {
+        false
     }
 }
 
@@ -115,17 +120,41 @@ pub fn pass<W: Work>(
     input.rewind()?;
     let mut walk = Walk::start();
     let mut waiting = 0;
-    for windows in 0..u64::MAX {
-        let filled = input.fill(window, waiting)?;
-        let all = &window[..filled.count.min(window.len())];
-        walk = take_all(work, Walk { at: 0, ..walk }, all, filled.ended, page)?;
-        progress(rt, work.said(), windows + 1);
+    for before in 0..u64::MAX {
+        let windows = before + 1;
+        let filled = input
+            .fill(window, waiting)
+            .map_err(|failure| failure.in_window(work.said(), windows))?;
+        walk = take_window(rt, work, walk, window, filled, page, windows)?;
         if filled.ended || !walk.more {
             break;
         }
         waiting = move_to_front(window, walk.at, filled.count);
     }
     page.finish()?;
+    Ok(walk)
+}
+
+// Takes the pieces of a window, and says how far the pass is: before them, or after them, and then where that fails too.
+fn take_window<W: Work>(
+    rt: &HostRuntime,
+    work: &mut W,
+    walk: Walk,
+    window: &[u8],
+    filled: Filled,
+    page: &mut Page,
+    windows: u64,
+) -> Result<Walk, Failure> {
+    let start = Walk { at: 0, ..walk };
+    let all = &window[..filled.count.min(window.len())];
+    let said = work.said();
+    if work.is_said_first() {
+        progress(rt, said, windows);
+        return take_all(work, start, all, filled.ended, page);
+    }
+    let taken = take_all(work, start, all, filled.ended, page);
+    let walk = taken.map_err(|failure| failure.in_window(said, windows))?;
+    progress(rt, said, windows);
     Ok(walk)
 }
 

@@ -1,8 +1,6 @@
 -- `length_in`: by the nibble, byte by byte.
-use native.Mathlib.Omega.{arith}
 use borrow.Author.Tests.{lt-ltb, le-ltb, eq-eqb, ne_eqb}
 use Rattle.framing.specs.Head.{length_in}
-use Rattle.framing.proofs.Heads.{extra_two, extra_four}
 use Rattle.framing.proofs.length_in.Goals as goal
 
 pub returns-then-nibble-lt13 : goal.returns-then-nibble-lt13
@@ -13,18 +11,9 @@ pub returns-then-nibble-eq13 : goal.returns-then-nibble-eq13
 unfolding length_in
 returns-then-nibble-eq13 c = rw (le-ltb _ _ c.if-nibble-lt13.false, eq-eqb _ _ c.if-nibble-eq13.true, c.byte_at.ensures.is)
 
-pub byte_at-requires-3 : goal.byte_at-requires-3
-byte_at-requires-3 c = omega (arith, extra_two _ c.if-nibble-lt13.false c.if-nibble-eq13.false)
-
 pub returns-then-nibble-eq14 : goal.returns-then-nibble-eq14
 unfolding length_in
 returns-then-nibble-eq14 c = rw (le-ltb _ _ c.if-nibble-lt13.false, ne_eqb _ _ c.if-nibble-eq13.false, eq-eqb _ _ c.if-nibble-eq14.true, ← c.byte_at-2.ensures.is, ← c.byte_at-3.ensures.is)
-
-pub byte_at-requires-4 : goal.byte_at-requires-4
-byte_at-requires-4 c = omega (arith, extra_four _ c.if-nibble-lt13.false c.if-nibble-eq13.false c.if-nibble-eq14.false)
-
-pub byte_at-requires-5 : goal.byte_at-requires-5
-byte_at-requires-5 c = omega (arith, extra_four _ c.if-nibble-lt13.false c.if-nibble-eq13.false c.if-nibble-eq14.false)
 
 pub returns : goal.returns
 unfolding length_in

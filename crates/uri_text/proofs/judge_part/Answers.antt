@@ -31,7 +31,7 @@ returns-in_err-due c =
     let a = asked c.after.result (sym c.ok_or.ensures.value ∙ c.in_err-due.was) in
     let p = err_from_is_err_and c.from_residual.result c.from_residual.ensures.1 in
     rw (p.1, p.2, a.1)
-    (judging_never _ _ _ _ _ _ _ _ _ c.loop-step.invariant _ _ (taken (goal.at.returns-in_err-due c).In-Some) (subst (LeftDue _ _) a.0 c.after.ensures).is)
+    (judging_never _ _ _ _ _ _ _ _ _ c.loop-step.invariant _ _ (taken (goal.at.returns-in_err-due c).In-Some) (subst (LeftDue _ _) a.0 c.after.ensures.text).is)
 
 pub loop-step-smaller : goal.loop-step-smaller
 loop-step-smaller c = let t = taken (goal.at.loop-step-smaller c).In-Some in omega (arith, t.ahead, t.inside)
@@ -40,4 +40,4 @@ pub loop-step-preserved : goal.loop-step-preserved
 loop-step-preserved c =
     let left : c.after.result ≡ Some c.in_ok-due.due = c.ok_or.ensures.ok_part ∙ ap result_ok c.in_ok-due.was in
     rw c.only_dots-only.ensures
-    (judging_turn _ _ _ _ _ _ _ _ _ c.loop-step.invariant _ _ _ _ _ (taken (goal.at.loop-step-preserved c).In-Some) (subst (LeftDue _ _) left c.after.ensures).is)
+    (judging_turn _ _ _ _ _ _ _ _ _ c.loop-step.invariant _ _ _ _ _ (taken (goal.at.loop-step-preserved c).In-Some) (subst (LeftDue _ _) left c.after.ensures.text).is)

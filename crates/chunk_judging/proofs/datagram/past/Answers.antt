@@ -4,7 +4,7 @@ use mathlib.Core.Path.{sym, ap, ◌∙◌}
 use lib.Dec.{leb}
 use native.Mathlib.Omega.{arith}
 use Rattle.chunk_judging.proofs.Places.{offset_over, past_none, past_over, past_last}
-use Rattle.chunk_judging.proofs.past.Goals as goal
+use Rattle.chunk_judging.proofs.datagram.past.Goals as goal
 
 pub returns-then-len-lt1 : goal.returns-then-len-lt1
 returns-then-len-lt1 c = sym (past_none _ _ _ _ c.if-len-lt1.true)
