@@ -7,14 +7,14 @@ ghost use Rattle.chunk_judging.specs.Chunks.{offset, gathered, past, Lies};
 use option_reading::ByteSource;
 use stream::Form;
 
-// Where a byte of a datagram stands, from the start of its chunks.
+// Where a byte of a datagram stands, from the start of its chunks: behind the bytes before it, and behind the heads.
 fn offset_of(form: Form, i: usize) -> usize
     requires { i < 2 ^ 63 }
     ensures { result ≡ offset form i }
 {
     match form {
-        Form::Old => i / 30 * 32 + 2 + i % 30,
-        Form::New => i / 64 * 65 + 1 + i % 64,
+        Form::Old => i + i / 30 * 2 + 2,
+        Form::New => i + i / 64 + 1,
     }
 }
 
